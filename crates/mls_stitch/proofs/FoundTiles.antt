@@ -1,20 +1,20 @@
 -- What area search found, once it is sorted.
-use Rattle.std.proofs.Common.{◌≡◌, ℕ, ◌<◌, true, false, Ordering, ◌&&◌, ◌||◌, ◌==◌, nat_lt, max, List, length, get_or, Option, AllPairs, IsPermutation, inl, inr, sym, ap, ◌∙◌, subst, arith}
+use Rattle.std.proofs.Common.{◌≡◌, ◌≢◌, ℕ, ◌<◌, true, false, Ordering, ◌&&◌, ◌||◌, ◌==◌, nat_lt, max, List, get_or, Option, AllPairs, IsPermutation, inl, inr, sym, ap, ◌∙◌, subst, arith}
 use Rattle.std.specs.List.Sorted.{IsSortedByKey}
 use Rattle.std.specs.Ordering.{is_lt, nat_cmp, ordering_then}
 use Rattle.std.proofs.lemmas.Bool.{both_ways, cases_lt}
 use Rattle.std.proofs.lemmas.Bool.Decides.{nat_tests}
 use Rattle.std.proofs.lemmas.Cmp.{nat_cmp_total, on_total, then_total}
 use Rattle.std.proofs.lemmas.List.Sorted.{All-permutation, ranks_by, sorted_far}
-use Rattle.mls_geom.specs.Rects.{Rect, IsRectangleIn, holds, meets}
+use Rattle.mls_geom.specs.Rects.{Rect, IsRectangleIn, holds}
 use Rattle.mls_geom.specs.World.{world}
 use Rattle.mls_geom.specs.declared.piece.Piece.{Piece}
 use Rattle.mls_geom.proofs.Holds.{between_holds}
 use Rattle.mls_stitch.specs.Areas.{AreInArea, IsFound, MeetArea, comes_first}
-use Rattle.mls_stitch.specs.Enumerations.{IsListedTo, first_row}
+use Rattle.mls_stitch.specs.Enumerations.{first_row}
 use Rattle.mls_stitch.specs.Tilings.{AreBlocks}
 use Rattle.mls_stitch.specs.declared.laid_tile.LaidTile.{LaidTile}
-use Rattle.mls_stitch.proofs.Listings.{first_row_found, listed_whole, meets_lines, one_tile}
+use Rattle.mls_stitch.proofs.Listings.{first_row_found, meets_lines, one_tile}
 use Rattle.mls_stitch.proofs.MovedTiles.{any_moved, once_moved}
 use Rattle.mls_stitch.proofs.Sides.{legal-AreBlocks}
 
@@ -62,47 +62,34 @@ first_of p q left right not_after differ = elim (cases_lt p q) [
       ]
 ]
 
--- a found tile has its first square in the area
-first_square :
-    (area : Rect) (tile : LaidTile) → IsRectangleIn world area → IsRectangleIn world tile.piece.rect → meets tile.piece.rect area ≡ true
-    → holds tile.piece.rect (max tile.piece.rect.left area.left) (first_row area tile) ≡ true
-first_square area tile inside legal met =
-    let lines = meets_lines tile.piece.rect area met in
-    let rows = first_row_found area tile inside legal met in
-    between_holds tile.piece.rect (max tile.piece.rect.left area.left) (first_row area tile) (omega arith) (omega (arith, lines.1, legal.wide)) rows.0 rows.2
+module _ (blocks : ℕ → Option Piece) (area : Rect) (tiling : AreBlocks blocks) (inside : IsRectangleIn world area) where
+  -- a found tile has its first square in the area
+  first_square : (tile : LaidTile) → IsFound blocks area tile → holds tile.piece.rect (max tile.piece.rect.left area.left) (first_row area tile) ≡ true
+  first_square tile found =
+      let lines = meets_lines tile.piece.rect area found.met in
+      let rows = first_row_found blocks area tiling inside tile found in
+      let legal = legal-AreBlocks blocks tile.id tile.piece tiling found.laid in
+      between_holds tile.piece.rect (max tile.piece.rect.left area.left) (first_row area tile) (omega arith) (omega (arith, lines.1, legal.wide)) rows.0 rows.2
 
--- two found tiles with one first square are one
-apart_found :
-    (blocks : ℕ → Option Piece) (area : Rect) (p q : LaidTile) → AreBlocks blocks → IsRectangleIn world area → IsFound blocks area p → IsFound blocks area q
-    → (first_row area p ≡ first_row area q) × (p.piece.rect.left ≡ q.piece.rect.left) → p ≡ q
-apart_found blocks area p q tiling inside found_p found_q (row, left) =
-    let in_p = first_square area p inside (legal-AreBlocks blocks p.id p.piece tiling found_p.laid) found_p.met in
-    let in_q = first_square area q inside (legal-AreBlocks blocks q.id q.piece tiling found_q.laid) found_q.met in
-    one_tile blocks p q (max p.piece.rect.left area.left) (first_row area p) tiling found_p.laid found_q.laid in_p
-    (subst (λ x. holds q.piece.rect (max x area.left) (first_row area p) ≡ true) (sym left) (subst (λ y. holds q.piece.rect (max q.piece.rect.left area.left) y ≡ true) (sym row) in_q))
+  -- two found tiles with one first square are one
+  apart_found : (p q : LaidTile) → IsFound blocks area p → IsFound blocks area q → (first_row area p ≡ first_row area q) × (p.piece.rect.left ≡ q.piece.rect.left) → p ≡ q
+  apart_found p q found_p found_q (row, left) =
+      one_tile blocks p q (max p.piece.rect.left area.left) (first_row area p) tiling found_p.laid found_q.laid (first_square p found_p)
+      (subst (λ x. holds q.piece.rect (max x area.left) (first_row area p) ≡ true) (sym left)
+      (subst (λ y. holds q.piece.rect (max q.piece.rect.left area.left) y ≡ true) (sym row) (first_square q found_q)))
 
--- once all parents are passed, the list has the tiles of the area
-pub MeetArea-listed :
-    (blocks : ℕ → Option Piece) (area : Rect) (list : List LaidTile) → AreBlocks blocks → IsRectangleIn world area → IsListedTo blocks area list (length list) world.top
-    → MeetArea blocks area list
-MeetArea-listed blocks area list tiling inside listed = record {
-  each = listed.each;
-  whole = λ x y held. listed_whole blocks area list tiling inside listed x y held;
-}
-
--- once all parents are passed, the sorted list is what area search finds
-pub area_found :
-    (blocks : ℕ → Option Piece) (area : Rect) (list sorted : List LaidTile) → AreBlocks blocks → IsRectangleIn world area → IsListedTo blocks area list (length list) world.top
-    → IsPermutation list sorted → AllPairs (λ p q. comes_first area q p ≡ false) sorted → AreInArea blocks area sorted
-area_found blocks area list sorted tiling inside listed moved none =
-    let each = All-permutation (IsFound blocks area) list sorted moved listed.each in
-    let once = once_moved list sorted moved listed.once in
-    record {
-      each = each;
-      whole = λ x y held. any_moved (λ tile. holds tile.piece.rect x y ≡ true) list sorted moved (listed_whole blocks area list tiling inside listed x y held);
-      ordered = λ i j d before within.
-          let p = get_or sorted i d in
-          let q = get_or sorted j d in
-          first_of (first_row area p) (first_row area q) p.piece.rect.left q.piece.rect.left (none i j d before within)
-          (λ same. once i j d before within (ap (λ (t : LaidTile). t.id) (apart_found blocks area p q tiling inside (each i d (omega (arith, before, within))) (each j d within) same)));
-    }
+  -- sorted, the tiles of an area are what area search finds
+  pub area_found :
+      (list sorted : List LaidTile) → MeetArea blocks area list → AllPairs (λ p q. p.id ≢ q.id) list → IsPermutation list sorted → AllPairs (λ p q. comes_first area q p ≡ false) sorted
+      → AreInArea blocks area sorted
+  area_found list sorted found once moved none =
+      let each = All-permutation (IsFound blocks area) list sorted moved found.each in
+      record {
+        each = each;
+        whole = λ x y held. any_moved (λ tile. holds tile.piece.rect x y ≡ true) list sorted moved (found.whole x y held);
+        ordered = λ i j d before within.
+            let p = get_or sorted i d in
+            let q = get_or sorted j d in
+            first_of (first_row area p) (first_row area q) p.piece.rect.left q.piece.rect.left (none i j d before within)
+            (λ same. once_moved list sorted moved once i j d before within (ap (λ (t : LaidTile). t.id) (apart_found p q (each i d (omega (arith, before, within))) (each j d within) same)));
+      }

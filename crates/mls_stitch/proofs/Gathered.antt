@@ -24,7 +24,7 @@ use Rattle.mls_stitch.specs.Tilings.{AreBlocks}
 use Rattle.mls_stitch.specs.Walks.{IsLaid}
 use Rattle.mls_stitch.specs.declared.laid_tile.LaidTile.{LaidTile}
 use Rattle.mls_stitch.proofs.FreshTiles.{entry-keys_of}
-use Rattle.mls_stitch.proofs.Listings.{listed_whole}
+use Rattle.mls_stitch.proofs.Listings.{MeetArea-listed}
 use Rattle.mls_stitch.proofs.ReplacedStitches.{Any-contained}
 use Rattle.mls_stitch.proofs.Sides.{HoldsAt-block, there-IsSomeAnd}
 
@@ -51,16 +51,20 @@ met_key blocks key block list x y tiling here inside laid (k, tile, within, is, 
     let one : tile.id ≡ key = tiling.apart tile.id key (record { x = x; y = y }) (HoldsAt-block blocks tile.id tile.piece (record { x = x; y = y }) there held) (HoldsAt-block blocks key block (record { x = x; y = y }) here inside) in
     subst (Contains (keys_of list)) one (Contains-map (λ t. t.id) list tile (k, within, is))
 
+-- tiles that have each square of an area are all that have one of it
+pub AreMet-MeetArea : (blocks : ℕ → Option Piece) (area : Rect) (list : List LaidTile) → AreBlocks blocks → MeetArea blocks area list → AreMet blocks area list
+AreMet-MeetArea blocks area list tiling found = record {
+  each = found.each;
+  whole = λ key block here met.
+      let (x, y, in_block, in_area) = common_square block.rect area met in
+      met_key blocks key block list x y tiling here in_block (λ k d within. (found.each k d within).laid) (found.whole x y in_area);
+}
+
 -- once all parents are passed, area search has found the tiles of the area
 pub AreMet-listed :
     (blocks : ℕ → Option Piece) (area : Rect) (list : List LaidTile) → AreBlocks blocks → IsRectangleIn world area → IsListedTo blocks area list (length list) world.top
     → AreMet blocks area list
-AreMet-listed blocks area list tiling inside listed = record {
-  each = listed.each;
-  whole = λ key block here met.
-      let (x, y, in_block, in_area) = common_square block.rect area met in
-      met_key blocks key block list x y tiling here in_block (λ k d within. (listed.each k d within).laid) (listed_whole blocks area list tiling inside listed x y in_area);
-}
+AreMet-listed blocks area list tiling inside listed = AreMet-MeetArea blocks area list tiling (MeetArea-listed blocks area tiling inside list listed)
 
 -- a rectangle has the squares of those in it
 pub held_inside : (outer e : Rect) (x y : ℕ) → IsWithin outer e → holds e x y ≡ true → holds outer x y ≡ true

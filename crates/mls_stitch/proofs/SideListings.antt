@@ -16,7 +16,6 @@ use Rattle.mls_stitch.specs.declared.laid_tile.LaidTile.{LaidTile}
 use Rattle.mls_tilepool.specs.declared.tile.Tile.{Tile}
 use Rattle.mls_stitch.proofs.ListedTiles.{length-le-AreLaid}
 use Rattle.mls_stitch.proofs.Listings.{any_push, found_with, first_row_found, same_tile}
-use Rattle.mls_stitch.proofs.Sides.{legal-AreBlocks}
 
 pub side_none : (blocks : ℕ → Option Piece) (area : Rect) → IsSideListedTo blocks area [] area.bottom
 side_none blocks area = record {
@@ -27,58 +26,50 @@ side_none blocks area = record {
   below = λ k d within. absurd (omega arith);
 }
 
--- a tile at the line is none of those below it
-pub not_below :
-    (blocks : ℕ → Option Piece) (area : Rect) (list : List LaidTile) (line : ℕ) (tile : LaidTile) → IsSideListedTo blocks area list line
-    → IsLaidAt blocks (record { x = area.left; y = line }) tile → All (λ p. p.id ≢ tile.id) list
-not_below blocks area list line tile listed is k d within same =
-    let other = get_or list k d in
-    let one : other ≡ tile = same_tile blocks other tile (listed.each k d within).laid is.laid same in
-    let lines = holds_between tile.piece.rect area.left line is.held in
-    omega (arith, listed.below k d within, ap (λ (t : LaidTile). t.piece.rect.top) one, lines.3)
+module _ (blocks : ℕ → Option Piece) (area : Rect) (list : List LaidTile) (line : ℕ) (tiling : AreBlocks blocks) (inside : IsRectangleIn world area) (listed : IsSideListedTo blocks area list line) where
+  -- a tile at the line is none of those below it
+  not_below : (tile : LaidTile) → IsLaidAt blocks (record { x = area.left; y = line }) tile → All (λ p. p.id ≢ tile.id) list
+  not_below tile is k d within same =
+      let other = get_or list k d in
+      let one : other ≡ tile = same_tile blocks other tile (listed.each k d within).laid is.laid same in
+      let lines = holds_between tile.piece.rect area.left line is.held in
+      omega (arith, listed.below k d within, ap (λ (t : LaidTile). t.piece.rect.top) one, lines.3)
 
--- the tile that has the side's square at the line goes on the list
-pub side_push :
-    (blocks : ℕ → Option Piece) (area : Rect) (list : List LaidTile) (line : ℕ) (tile : LaidTile) → AreBlocks blocks → IsRectangleIn world area → IsSideListedTo blocks area list line
-    → area.bottom ≤ line → line < area.top → IsLaidAt blocks (record { x = area.left; y = line }) tile → IsSideListedTo blocks area (list ++ tile ∷ []) tile.piece.rect.top
-side_push blocks area list line tile tiling inside listed low high is =
-    let square : holds area area.left line ≡ true = between_holds area area.left line (omega arith) inside.wide low high in
-    let found = found_with blocks area tile area.left line tiling inside square is in
-    let lines = holds_between tile.piece.rect area.left line is.held in
-    record {
-      each = All-push (IsFound blocks area) list tile listed.each found;
-      once = all_pairs_push (λ p q. p.id ≢ q.id) list tile listed.once (not_below blocks area list line tile listed is);
-      on_side = λ y above below.
-          elim (cases_lt y line) [
-            | inl before ↦ any_push (λ t. holds t.piece.rect area.left y ≡ true) list tile (listed.on_side y above before)
-            | inr after ↦
-                Any-push (λ t. holds t.piece.rect area.left y ≡ true) list tile (between_holds tile.piece.rect area.left y lines.0 lines.1 (omega (arith, lines.2, after)) below)
-          ];
-      at_side = All-push (λ t. t.piece.rect.left ≤ area.left) list tile listed.at_side lines.0;
-      below = All-push (λ t. t.piece.rect.top ≤ tile.piece.rect.top) list tile (λ k d within. omega (arith, listed.below k d within, lines.3)) (omega arith);
-    }
+  -- the tile that has the side's square at the line goes on the list
+  pub side_push : (tile : LaidTile) → area.bottom ≤ line → line < area.top → IsLaidAt blocks (record { x = area.left; y = line }) tile → IsSideListedTo blocks area (list ++ tile ∷ []) tile.piece.rect.top
+  side_push tile low high is =
+      let square : holds area area.left line ≡ true = between_holds area area.left line (omega arith) inside.wide low high in
+      let lines = holds_between tile.piece.rect area.left line is.held in
+      record {
+        each = All-push (IsFound blocks area) list tile listed.each (found_with blocks area tiling inside tile area.left line square is);
+        once = all_pairs_push (λ p q. p.id ≢ q.id) list tile listed.once (not_below tile is);
+        on_side = λ y above below.
+            elim (cases_lt y line) [
+              | inl before ↦ any_push (λ t. holds t.piece.rect area.left y ≡ true) list tile (listed.on_side y above before)
+              | inr after ↦
+                  Any-push (λ t. holds t.piece.rect area.left y ≡ true) list tile (between_holds tile.piece.rect area.left y lines.0 lines.1 (omega (arith, lines.2, after)) below)
+            ];
+        at_side = All-push (λ t. t.piece.rect.left ≤ area.left) list tile listed.at_side lines.0;
+        below = All-push (λ t. t.piece.rect.top ≤ tile.piece.rect.top) list tile (λ k d within. omega (arith, listed.below k d within, lines.3)) (omega arith);
+      }
 
--- the side is listed once the line reaches the area's top
-pub side_whole :
-    (blocks : ℕ → Option Piece) (area : Rect) (list : List LaidTile) (line : ℕ) → AreBlocks blocks → IsRectangleIn world area → IsSideListedTo blocks area list line → area.top ≤ line
-    → IsListedTo blocks area list 0 world.top
-side_whole blocks area list line tiling inside listed reaches = record {
-  each = listed.each;
-  once = listed.once;
-  on_side = λ y above below. listed.on_side y above (omega (arith, below, reaches));
-  listed = λ k d within. inl (listed.at_side k d within);
-  reached = λ tile found beyond reached. elim reached.passed [
-    | inl before ↦ absurd (omega (arith, before))
-    | inr (at, above) ↦
-        let rows = first_row_found area tile inside (legal-AreBlocks blocks tile.id tile.piece tiling found.laid) found.met in
-        absurd (omega (arith, above, rows.3, inside.top_in))
-  ];
-}
+  -- the side is listed once the line reaches the area's top
+  pub side_whole : area.top ≤ line → IsListedTo blocks area list 0 world.top
+  side_whole reaches = record {
+    each = listed.each;
+    once = listed.once;
+    on_side = λ y above below. listed.on_side y above (omega (arith, below, reaches));
+    listed = λ k d within. inl (listed.at_side k d within);
+    reached = λ tile found beyond reached. elim reached.passed [
+      | inl before ↦ absurd (omega (arith, before))
+      | inr (at, above) ↦ absurd (omega (arith, above, (first_row_found blocks area tiling inside tile found).3, inside.top_in))
+    ];
+  }
 
 -- there is room for the next tile
 pub side_fits :
     (tiles : List (ℕ × Tile)) (area : Rect) (list : List LaidTile) (line : ℕ) (tile : LaidTile) → IsPlane tiles → IsRectangleIn world area → IsSideListedTo (block_at tiles) area list line
     → area.bottom ≤ line → line < area.top → IsLaidAt (block_at tiles) (record { x = area.left; y = line }) tile → length list < length tiles
 side_fits tiles area list line tile plane inside listed low high is =
-    let longer = side_push (block_at tiles) area list line tile plane.tiling inside listed low high is in
+    let longer = side_push (block_at tiles) area list line plane.tiling inside listed tile low high is in
     omega (arith, length_push list tile, length-le-AreLaid tiles (list ++ tile ∷ []) (λ k d within. (longer.each k d within).laid) longer.once)

@@ -5,7 +5,6 @@ use Rattle.std.specs.List.{All, Any, AllPairs, Contains}
 use Rattle.mls_geom.specs.Rects.{Rect, holds}
 use Rattle.mls_geom.specs.declared.piece.Piece.{Piece}
 use Rattle.mls_stitch.specs.Areas.{IsFound}
-use Rattle.mls_stitch.specs.Walks.{IsLaidAt}
 use Rattle.mls_stitch.specs.declared.laid_tile.LaidTile.{LaidTile}
 
 -- the lowest row of the tile that is not below the area
@@ -41,14 +40,3 @@ pub record IsSideListedTo (blocks : ℕ → Option Piece) (area : Rect) (list : 
   pub on_side : (y : ℕ) → area.bottom ≤ y → y < line → Any (λ tile. IsTrue (holds tile.piece.rect area.left y)) list
   pub at_side : All (λ tile. tile.piece.rect.left ≤ area.left) list
   pub below : All (λ tile. tile.piece.rect.top ≤ line) list
-
--- the tile is the next right neighbour of the parent, which is the listed tile at the index; the neighbours above the line have been passed
-pub record IsBeside (blocks : ℕ → Option Piece) (area : Rect) (list : List LaidTile) (index : ℕ) (parent tile : LaidTile) : Type 0 where
-  pub line : ℕ
-  pub listed : IsListedTo blocks area list index line
-  pub within : index < length list
-  pub here : (d : LaidTile) → slice_index_or list index d ≡ parent
-  pub beside : IsLaidAt blocks (record { x = parent.piece.rect.right; y = line - 1 }) tile
-  pub not_last : first_row area parent < line
-  pub up_to : line ≤ parent.piece.rect.top
-  pub before_end : parent.piece.rect.right < area.right

@@ -3,7 +3,6 @@ pub mod Enumerations
 pub mod Fresh
 pub mod Gathering
 pub mod Lookups
-pub mod Neighbours
 pub mod Pending
 pub mod Placing
 pub mod Replacements

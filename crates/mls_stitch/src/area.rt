@@ -1,13 +1,13 @@
 //! Area search.
-ghost use Rattle.std.specs.Prelude.{◌≡◌, ◌≤◌, length, map, vec_capacity, vec_len};
-ghost use Rattle.mls_tilepool.specs.Pools.{count_of, tiles_of};
-ghost use Rattle.mls_stitch.specs.Tilings.{HasPlane, IsMaximal, block_at, shown};
+ghost use Rattle.std.specs.Prelude.{◌≡◌, ◌≢◌, ◌≤◌, length, map, vec_capacity};
+ghost use Rattle.std.specs.List.{AllPairs};
 ghost use Rattle.mls_geom.specs.Pictures.{picture_of};
 ghost use Rattle.mls_geom.specs.Rects.{IsRectangleIn};
 ghost use Rattle.mls_geom.specs.Strips.{AreStrips};
 ghost use Rattle.mls_geom.specs.World.{world};
+ghost use Rattle.mls_tilepool.specs.Pools.{count_of, tiles_of};
 ghost use Rattle.mls_stitch.specs.Areas.{AreInArea, MeetArea};
-ghost use Rattle.mls_stitch.specs.Enumerations.{IsListedTo};
+ghost use Rattle.mls_stitch.specs.Tilings.{HasPlane, IsMaximal, block_at, shown};
 
 use crate::enumeration::{list_tiles, sort_rows};
 use crate::hints::Hints;
@@ -18,25 +18,26 @@ use mls_tilepool::Pool;
 
 impl Plane {
     /// Fills `list` with the tiles that have a square of the area, each once, in any order. The search starts at the
-    /// tile in hand that was found closest to the square `near`.
+    /// tile in hand that was found closest to the square `near`, and the first tile is kept in hand for it.
     pub(crate) fn search(
         &self,
         pool: &Pool,
         near: Point,
         area: Rect,
-        hints: &Hints,
+        hints: &mut Hints,
         list: &mut Vec<LaidTile>,
     )
         requires plane { HasPlane pool.now self.now }
         requires room { count_of pool.now self.now ≤ vec_capacity list.old }
         ensures legal { IsRectangleIn world area }
-        ensures listed { IsListedTo (block_at (tiles_of pool.now self.now)) area list.new.items
-            (vec_len list.new) world.top }
+        ensures found { MeetArea (block_at (tiles_of pool.now self.now)) area list.new.items }
+        ensures once { AllPairs (λ p q. p.id ≢ q.id) list.new.items }
         ensures room { vec_capacity list.new ≡ vec_capacity list.old }
     {
         let from = hints.start(pool, &self.owner, near);
         let mut steps = Steps::up_to(usize::MAX);
         list_tiles(pool, &self.owner, from, area, list, &mut steps);
+        hints.keep(&self.owner, near, list.first());
     }
 
     /// Finds the tiles that have a square of the area, by their bottom, clipped to the area, and then their left, and
@@ -50,7 +51,6 @@ impl Plane {
         let Scratch { hints, tiles, .. } = scratch;
         self.search(pool, area.corner(), area, hints, tiles);
         sort_rows(area, tiles);
-        hints.keep_first(&self.owner, area.corner(), tiles);
     }
 
     /// Finds the tiles that have a square of the area, in any order, and leaves them in the scratch.
@@ -62,7 +62,6 @@ impl Plane {
     {
         let Scratch { hints, tiles, .. } = scratch;
         self.search(pool, area.corner(), area, hints, tiles);
-        hints.keep_first(&self.owner, area.corner(), tiles);
     }
 
     /// Finds all tiles of the plane, by bottom and then left, and leaves them in the scratch.
@@ -78,7 +77,9 @@ impl Plane {
     {
         let world = Rect::world();
         let Scratch { hints, tiles, .. } = scratch;
-        self.search(pool, world.corner(), world, hints, tiles);
+        let from = hints.start(pool, &self.owner, world.corner());
+        let mut steps = Steps::up_to(usize::MAX);
+        list_tiles(pool, &self.owner, from, world, tiles, &mut steps);
         sort_rows(world, tiles);
     }
 }

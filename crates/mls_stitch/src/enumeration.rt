@@ -1,73 +1,22 @@
 //! The enumeration of an area's tiles (Ousterhout 1984), each of which has one parent.
-ghost use Rattle.std.specs.Prelude.{ℕ, ◌≡◌, ◌+◌, ◌-◌, ◌<◌, ◌≤◌, ◌&&◌, if◌then◌else◌, nat_le, nat_lt, max, false, slice_index_or, vec_len, vec_capacity};
+ghost use Rattle.std.specs.Prelude.{◌≡◌, ◌+◌, ◌<◌, ◌≤◌, false, vec_len, vec_capacity};
 ghost use Rattle.mls_geom.specs.Rects.{IsRectangleIn};
 ghost use Rattle.mls_geom.specs.World.{world};
 ghost use Rattle.mls_tilepool.specs.Pools.{count_of, tiles_of};
 ghost use Rattle.std.specs.List.{AllPairs};
 ghost use Rattle.std.specs.List.Sorted.{IsPermutation};
 ghost use Rattle.mls_stitch.specs.Areas.{comes_first};
-ghost use Rattle.mls_stitch.specs.Enumerations.{IsBeside, IsListedTo, first_row};
-ghost use Rattle.mls_stitch.specs.Neighbours.{IsHeld, laid_of};
+ghost use Rattle.mls_stitch.specs.Enumerations.{IsListedTo};
 ghost use Rattle.mls_stitch.specs.Tilings.{HasPlane, block_at};
-ghost use Rattle.mls_stitch.specs.declared.laid_tile.LaidTile.{LaidTile};
 
 use crate::LaidTile;
-use crate::neighbour::Neighbour;
+use crate::laid_tile::{bottom_beyond, laid_to, left_beyond};
 use crate::steps::Steps;
 use crate::walk::find_near;
 use mls_geom::{Point, Rect};
 use mls_tilepool::{Owner, Pool, TileId};
 
-/// Returns the lowest row of the tile that is not below the area.
-fn first_row(area: Rect, tile: &LaidTile) -> u32
-    ensures { result ≡ first_row area tile.now }
-{
-    tile.sides().bottom.max(area.area().bottom)
-}
-
-/// Returns whether a right neighbour of the parent with this bottom is its child in the area: whether it lies in rows of
-/// the area, and its first row there is one of the parent's.
-fn is_child(area: Rect, parent: &LaidTile, bottom: u32) -> bool
-    ensures { result ≡ (nat_lt bottom area.top && nat_le parent.now.piece.rect.bottom (max bottom area.bottom)) }
-{
-    let bounds = area.area();
-    bottom < bounds.top && parent.sides().bottom <= bottom.max(bounds.bottom)
-}
-
-/// Lists the right neighbour of a listed tile, where it is the tile's child.
-fn push_child(
-    pool: &Pool,
-    owner: &Owner,
-    area: Rect,
-    parent: &LaidTile,
-    neighbour: &Neighbour,
-    list: &mut Vec<LaidTile>,
-)
-    requires plane { HasPlane pool.now owner.now }
-    requires legal { IsRectangleIn world area }
-    requires room { count_of pool.now owner.now ≤ vec_capacity list.old }
-    requires held { IsHeld (tiles_of pool.now owner.now) neighbour.now }
-    requires beside { (index : ℕ)
-        × IsBeside (block_at (tiles_of pool.now owner.now)) area list.old.items index parent.now
-        (laid_of (tiles_of pool.now owner.now) neighbour.now) }
-    ensures listed { (index : ℕ)
-        → IsBeside (block_at (tiles_of pool.now owner.now)) area list.old.items index parent.now
-        (laid_of (tiles_of pool.now owner.now) neighbour.now)
-        → IsListedTo (block_at (tiles_of pool.now owner.now)) area list.new.items index
-        neighbour.now.tile.corner.y }
-    ensures kept { (index : ℕ) (d : LaidTile)
-        → IsBeside (block_at (tiles_of pool.now owner.now)) area list.old.items index parent.now
-        (laid_of (tiles_of pool.now owner.now) neighbour.now)
-        → slice_index_or list.new.items index d ≡ parent.now }
-    ensures longer { vec_len list.old ≤ vec_len list.new }
-    ensures room { vec_capacity list.new ≡ vec_capacity list.old }
-{
-    if is_child(area, parent, neighbour.bottom()) {
-        list.push_reserved(neighbour.laid(pool, owner));
-    }
-}
-
-/// Lists the right neighbours of the tile at the index of which it is the parent.
+/// Lists the right neighbours of the tile at the index of which it is the parent, from the top down.
 fn push_children(
     pool: &Pool,
     owner: &Owner,
@@ -85,40 +34,32 @@ fn push_children(
     ensures longer { vec_len list.old ≤ vec_len list.new }
     ensures room { vec_capacity list.new ≡ vec_capacity list.old }
 {
+    let bounds = area.area();
     let parent = list[index];
-    if area.area().right <= parent.sides().right {
+    let sides = parent.sides();
+    if bounds.right <= sides.right {
         return;
     }
-    let last_row = first_row(area, &parent);
-    let mut neighbour = Neighbour::first(pool, owner, &parent);
-    'neighbours: loop {
+    let last_row = sides.bottom.max(bounds.bottom);
+    let mut line = sides.top;
+    let mut next = pool.get(owner, parent.id).unwrap().tr;
+    'neighbours: while last_row < line {
         steps.take();
-        push_child(pool, owner, area, &parent, &neighbour, list);
-        if neighbour.bottom() <= last_row {
-            return;
+        let id = next.unwrap();
+        let tile = pool.get(owner, id).unwrap();
+        let bottom = tile.corner.row();
+        let above = tile.rt;
+        next = tile.lb;
+        if (last_row..bounds.top).contains(&bottom.max(bounds.bottom)) {
+            let right = left_beyond(pool, owner, tile.tr);
+            let top = if line < sides.top {
+                line
+            } else {
+                bottom_beyond(pool, owner, above)
+            };
+            list.push_reserved(laid_to(id, &tile, right, top));
         }
-        neighbour = neighbour.below(pool, owner);
-    }
-}
-
-/// Returns the name of the tile above the upper-right corner of the one under the name, and that name where there is
-/// none.
-fn above(pool: &Pool, owner: &Owner, id: TileId) -> TileId {
-    match pool.get(owner, id) {
-        Some(tile) => tile.rt.unwrap_or(id),
-        None => id,
-    }
-}
-
-/// Returns the tile from which to go on up the area's left side: the one above the tile found last, or the one before
-/// where the tile reaches beyond the area and may have many more neighbours there.
-fn next_start(area: Rect, from: TileId, above: TileId, tile: &LaidTile) -> TileId
-    ensures { result ≡ (if nat_le tile.now.piece.rect.right area.right then above else from) }
-{
-    if tile.sides().right <= area.area().right {
-        above
-    } else {
-        from
+        line = bottom;
     }
 }
 
@@ -144,10 +85,15 @@ fn list_left_side(
     let mut from = from;
     'side: while line < bounds.top {
         let tile = find_near(pool, owner, near, from, Point::at(bounds.left, line), steps);
+        let sides = tile.sides();
+        let above = pool.get(owner, tile.id).and_then(|tile| tile.rt);
+        near = above.unwrap_or(tile.id);
+        // A tile that reaches beyond the area may have many more neighbours there.
+        if sides.right <= bounds.right {
+            from = near;
+        }
         list.push_reserved(tile);
-        line = tile.sides().top;
-        near = above(pool, owner, tile.id);
-        from = next_start(area, from, near, &tile);
+        line = sides.top;
     }
 }
 
@@ -181,5 +127,9 @@ pub(crate) fn sort_rows(area: Rect, list: &mut Vec<LaidTile>)
     ensures same { IsPermutation list.old.items list.new.items }
     ensures room { vec_capacity list.new ≡ vec_capacity list.old }
 {
-    list.sort_unstable_by_key(|tile| (first_row(area, tile), tile.sides().left));
+    let bottom = area.area().bottom;
+    list.sort_unstable_by_key(|tile| {
+        let sides = tile.sides();
+        (sides.bottom.max(bottom), sides.left)
+    });
 }

@@ -23,7 +23,7 @@ impl Plane {
         let mut steps = Steps::up_to(usize::MAX);
         let from = scratch.hints.start(pool, &self.owner, at);
         let tile = find_near(pool, &self.owner, from, from, at, &mut steps);
-        scratch.hints.keep(&self.owner, at, tile.id);
+        scratch.hints.keep(&self.owner, at, Some(&tile));
         tile.id
     }
 }

@@ -1,5 +1,5 @@
 //! Tiles from which searches start.
-ghost use Rattle.std.specs.Prelude.{◌<◌, ◌≤◌};
+ghost use Rattle.std.specs.Prelude.{◌<◌};
 ghost use Rattle.mls_stitch.specs.Tilings.{HasPlane};
 
 use crate::LaidTile;
@@ -25,36 +25,20 @@ enum Parts {
 }
 
 impl Parts {
-    /// Returns how many squares wide and high a part is.
-    fn side(self) -> u32
-        ensures { 0 < result }
-    {
-        match self {
-            Parts::Small => 64,
-            Parts::Large => 131_072,
-            Parts::Whole => 1 << 23,
-        }
-    }
-
-    /// Returns where the table of an owner's parts begins, counted from the first of its tables.
-    fn table(self) -> usize
-        ensures { result ≤ 257 }
-    {
-        match self {
-            Parts::Whole => 0,
-            Parts::Large => 1,
-            Parts::Small => 257,
-        }
-    }
-
     /// Returns which slot has what is kept of the owner's part that has the square.
     fn slot(self, owner: &Owner, at: Point) -> usize
         ensures { result < 16384 }
     {
-        let column = at.column() / self.side() % SIDE;
-        let row = at.row() / self.side() % SIDE;
+        // How many squares wide and high a part is, and where the table of these begins, of the owner's three.
+        let (side, table) = match self {
+            Parts::Whole => (1 << 23, 0),
+            Parts::Large => (131_072, 1),
+            Parts::Small => (64, 257),
+        };
+        let column = at.column() / side % SIDE;
+        let row = at.row() / side % SIDE;
         let first = (owner.number() as usize).wrapping_mul(513);
-        first.wrapping_add(self.table() + (row * SIDE + column) as usize) % SLOTS
+        first.wrapping_add(table + (row * SIDE + column) as usize) % SLOTS
     }
 }
 
@@ -63,15 +47,6 @@ impl Parts {
 struct Hint {
     at: Point,
     tile: TileId,
-}
-
-impl Hint {
-    /// Returns how many squares another square is away, along columns and rows.
-    fn distance(self, at: Point) -> u32 {
-        let columns = self.at.column().max(at.column()) - self.at.column().min(at.column());
-        let rows = self.at.row().max(at.row()) - self.at.row().min(at.row());
-        columns.saturating_add(rows)
-    }
 }
 
 /// For each owner the tiles that were found last, in small parts of its plane, in large ones and in all of it.
@@ -90,11 +65,14 @@ impl Hints {
         })
     }
 
-    /// Keeps a tile of the owner's that was found at a square.
-    pub(crate) fn keep(&mut self, owner: &Owner, at: Point, tile: TileId) {
+    /// Keeps a tile of the owner's that was found at a square, if there is one.
+    pub(crate) fn keep(&mut self, owner: &Owner, at: Point, tile: Option<&LaidTile>) {
+        let Some(tile) = tile else {
+            return;
+        };
         for parts in [Parts::Small, Parts::Large, Parts::Whole] {
             if let Some(slot) = self.slots.get_mut(parts.slot(owner, at)) {
-                *slot = Some(Hint { at, tile });
+                *slot = Some(Hint { at, tile: tile.id });
             }
         }
     }
@@ -102,39 +80,28 @@ impl Hints {
     /// Keeps the last of these tiles of the owner's, if there is one.
     pub(crate) fn keep_last(&mut self, owner: &Owner, tiles: &[LaidTile]) {
         if let Some(tile) = tiles.last() {
-            self.keep(owner, tile.piece.rect.corner(), tile.id);
+            self.keep(owner, tile.piece.rect.corner(), Some(tile));
         }
     }
 
-    /// Keeps the first of these tiles of the owner's, which was found at the square, if there is one.
-    pub(crate) fn keep_first(&mut self, owner: &Owner, at: Point, tiles: &[LaidTile]) {
-        if let Some(tile) = tiles.first() {
-            self.keep(owner, at, tile.id);
-        }
-    }
-
-    /// Returns the tile that was found closest to a square, of those that were found last in the parts that have it
-    /// and that the owner still has.
-    fn closest(&self, pool: &Pool, owner: &Owner, at: Point) -> Option<TileId> {
+    /// Returns the tile from which to search for a square: of those that were found last in the parts that have it the
+    /// closest one that the owner still has, or else any one of the owner's.
+    pub(crate) fn start(&self, pool: &Pool, owner: &Owner, at: Point) -> TileId
+        requires { HasPlane pool.now owner.now }
+    {
         let mut closest = None;
         let mut distance = u32::MAX;
         for parts in [Parts::Whole, Parts::Large, Parts::Small] {
             if let Some(Some(hint)) = self.slots.get(parts.slot(owner, at)) {
-                let away = hint.distance(at);
+                let columns = hint.at.column().abs_diff(at.column());
+                let away = columns.saturating_add(hint.at.row().abs_diff(at.row()));
                 if away < distance && pool.get(owner, hint.tile).is_some() {
                     closest = Some(hint.tile);
                     distance = away;
                 }
             }
         }
-        closest
-    }
-
-    /// Returns the tile from which to search for a square: the closest one that is kept, or any one of the owner's.
-    pub(crate) fn start(&self, pool: &Pool, owner: &Owner, at: Point) -> TileId
-        requires { HasPlane pool.now owner.now }
-    {
-        match self.closest(pool, owner, at) {
+        match closest {
             Some(tile) => tile,
             None => pool.first(owner).unwrap(),
         }

@@ -10,7 +10,6 @@ mod find;
 mod hints;
 mod laid_tile;
 mod lookup;
-mod neighbour;
 mod parts;
 mod place;
 mod plane;

@@ -1,5 +1,5 @@
 //! The tiles that pieces touch.
-ghost use Rattle.std.specs.Prelude.{◌≡◌, ◌+◌, ◌++◌, ◌≤◌, IfSome, IsSome, IsSomeAnd, IsTrue, length, vec_len, vec_capacity};
+ghost use Rattle.std.specs.Prelude.{◌≡◌, ◌+◌, ◌++◌, ◌≤◌, IfSome, IsSomeAnd, IsTrue, length, vec_len, vec_capacity};
 ghost use Rattle.mls_geom.specs.Rects.{IsWithin};
 ghost use Rattle.mls_tilepool.specs.Pools.{count_of, tiles_of};
 ghost use Rattle.mls_stitch.specs.Areas.{AreSearched, ListTouched};
@@ -9,7 +9,6 @@ ghost use Rattle.mls_stitch.specs.Tilings.{HasPlane, block_at};
 use crate::around::{free_room, sort_dedup};
 use crate::bounds::bounds_of_pieces;
 use crate::enumeration::list_tiles;
-use crate::hints::Hints;
 use crate::scan::scan_area;
 use crate::steps::{Steps, are_many};
 use crate::{LaidTile, Plane, Scratch};
@@ -37,28 +36,6 @@ fn enclosing(over: &[Piece]) -> Option<Rect>
     } else {
         None
     }
-}
-
-/// Lists the tiles round the first piece, each once, if it has all others within it, and returns the area that was
-/// searched. The search starts at a tile in hand.
-fn list_round_first(
-    pool: &Pool,
-    plane: &Plane,
-    over: &[Piece],
-    hints: &Hints,
-    list: &mut Vec<LaidTile>,
-) -> Option<Rect>
-    requires plane { HasPlane pool.now plane.now }
-    requires room { count_of pool.now plane.now ≤ vec_capacity list.old }
-    ensures searched { AreSearched (block_at (tiles_of pool.now plane.now)) result list.new.items }
-    ensures touched { IsSome result → ListTouched (block_at (tiles_of pool.now plane.now)) over.now list.new.items }
-    ensures few { IsSome result → vec_len list.new ≤ count_of pool.now plane.now }
-    ensures room { vec_capacity list.new ≡ vec_capacity list.old }
-{
-    let bounds = enclosing(over)?;
-    let area = bounds.grow(1);
-    plane.search(pool, bounds.corner(), area, hints, list);
-    Some(area)
 }
 
 /// Returns whether the rectangle lies in the one round which tiles were searched last.
@@ -131,21 +108,6 @@ fn list_round_all(pool: &Pool, owner: &Owner, over: &[Piece], entries: &mut Vec<
 }
 
 impl Plane {
-    /// Finds tiles, each once, and among them those that one of the pieces touches, by a search round each piece or a
-    /// look at each tile of the plane, and leaves them in the scratch.
-    fn list_touched(&self, pool: &Pool, over: &[Piece], turns: usize, scratch: &mut Scratch)
-        requires plane { HasPlane pool.now self.now }
-        requires room { count_of pool.now self.now ≤ scratch.old.room }
-        ensures touched { ListTouched (block_at (tiles_of pool.now self.now)) over.now scratch.new.tiles }
-        ensures few { length scratch.new.tiles ≤ count_of pool.now self.now }
-        ensures scratch_room { scratch.new.room ≡ scratch.old.room }
-    {
-        if !list_round_each(pool, &self.owner, over, turns, scratch) {
-            list_round_all(pool, &self.owner, over, &mut scratch.tiles);
-        }
-        sort_dedup(&mut scratch.tiles);
-    }
-
     /// Finds tiles of the plane, each once, and among them all that one of the pieces touches, by a square, a side or a
     /// corner, and leaves them in the scratch.
     ///
@@ -172,15 +134,20 @@ impl Plane {
             self.strips_of(pool, scratch);
             return None;
         }
-        let Scratch { hints, tiles, .. } = scratch;
-        let searched = list_round_first(pool, self, over, hints, tiles);
-        if searched.is_none() {
-            self.list_touched(pool, over, turns, scratch);
+        if let Some(bounds) = enclosing(over) {
+            let area = bounds.grow(1);
+            let Scratch { hints, tiles, .. } = scratch;
+            self.search(pool, bounds.corner(), area, hints, tiles);
+            return Some(area);
         }
+        if !list_round_each(pool, &self.owner, over, turns, scratch) {
+            list_round_all(pool, &self.owner, over, &mut scratch.tiles);
+        }
+        sort_dedup(&mut scratch.tiles);
         let first = over.first().map_or(Rect::world(), |piece| piece.rect);
         scratch
             .hints
-            .keep_first(&self.owner, first.corner(), &scratch.tiles);
-        searched
+            .keep(&self.owner, first.corner(), scratch.tiles.first());
+        None
     }
 }

@@ -46,64 +46,37 @@ fn step_towards(pool: &Pool, owner: &Owner, id: TileId, tile: &Tile, at: Point) 
     Step::End(laid_to(id, tile, right, top))
 }
 
-/// Returns the tile under the name, if it holds the square.
-fn laid_with(pool: &Pool, owner: &Owner, id: TileId, at: Point) -> Option<LaidTile>
-    requires { HasPlane pool.now owner.now }
-    ensures { MatchOption result (¬ (HoldsAt (block_at (tiles_of pool.now owner.now)) id at))
-        (λ tile. IsLaidAt (block_at (tiles_of pool.now owner.now)) at tile) }
-{
-    let tile = laid(pool, owner, id)?;
-    if tile.holds(at) { Some(tile) } else { None }
-}
-
-/// Walks from a tile to the one that holds the square (Ousterhout 1984, point finding). Gives up after many steps, and
-/// where the owner has no such tile to start from.
-fn walk(pool: &Pool, owner: &Owner, from: TileId, at: Point, steps: &mut Steps) -> Option<LaidTile>
-    requires { HasPlane pool.now owner.now }
-    ensures { IfSome result (λ tile. IsLaidAt (block_at (tiles_of pool.now owner.now)) at tile) }
-{
-    let mut id = from;
-    for _ in 0..MOST_STEPS {
-        steps.take();
-        let tile = pool.get(owner, id)?;
-        match step_towards(pool, owner, id, &tile, at) {
-            Step::To(next) => id = next?,
-            Step::End(found) => return Some(found),
-        }
-    }
-    None
-}
-
-/// Walks from two tiles by turns to the one that holds the square, so that this takes at most twice the steps of the
-/// shorter way. Gives up as `walk` does.
-fn walk_by_turns(
+/// Walks from a tile to the one that holds the square (Ousterhout 1984, point finding), by turns with a walk from
+/// another tile, if there is one, so that both take at most twice the steps of the shorter way. Gives up after many
+/// steps, and where the owner has no such tile to start from.
+fn walk(
     pool: &Pool,
     owner: &Owner,
-    one: TileId,
-    other: TileId,
+    from: TileId,
+    other: Option<TileId>,
     at: Point,
     steps: &mut Steps,
 ) -> Option<LaidTile>
     requires { HasPlane pool.now owner.now }
     ensures { IfSome result (λ tile. IsLaidAt (block_at (tiles_of pool.now owner.now)) at tile) }
 {
-    if one == other {
-        return walk(pool, owner, one, at, steps);
-    }
-    let mut id = one;
+    let mut id = from;
     let mut other = other;
     for _ in 0..MOST_STEPS {
         steps.take();
         let Some(tile) = pool.get(owner, id) else {
-            return walk(pool, owner, other, at, steps);
+            id = other.take()?;
+            continue;
         };
-        match step_towards(pool, owner, id, &tile, at) {
-            Step::To(next) => {
-                id = other;
-                other = next?;
-            }
+        let next = match step_towards(pool, owner, id, &tile, at) {
+            Step::To(next) => next?,
             Step::End(found) => return Some(found),
-        }
+        };
+        id = match other {
+            Some(id) => id,
+            None => next,
+        };
+        other = other.and(Some(next));
     }
     None
 }
@@ -115,7 +88,8 @@ fn scan(pool: &Pool, owner: &Owner, at: Point, steps: &mut Steps) -> LaidTile
 {
     for (id, _) in pool.tiles(owner) {
         steps.take();
-        if let Some(tile) = laid_with(pool, owner, id, at) {
+        let tile = laid(pool, owner, id).filter(|tile| tile.holds(at));
+        if let Some(tile) = tile {
             return tile;
         }
     }
@@ -134,7 +108,8 @@ pub(crate) fn find_near(
     requires { HasPlane pool.now owner.now }
     ensures { IsLaidAt (block_at (tiles_of pool.now owner.now)) at result }
 {
-    match walk_by_turns(pool, owner, near, from, at, steps) {
+    let other = if near == from { None } else { Some(from) };
+    match walk(pool, owner, near, other, at, steps) {
         Some(tile) => tile,
         None => scan(pool, owner, at, steps),
     }

@@ -1,5 +1,5 @@
 -- The tile with the side's square at the line is listed next.
-use Rattle.std.proofs.Common.{◌≡◌, ap, ◌∙◌, subst, arith}
+use Rattle.std.proofs.Common.{◌≡◌, ◌∙◌, ap, subst, arith}
 use Rattle.mls_geom.specs.Rects.{Rect}
 use Rattle.mls_tilepool.specs.Pools.{tiles_of}
 use Rattle.mls_stitch.specs.Tilings.{block_at}
@@ -25,17 +25,17 @@ side-preserved c =
     let tiles = tiles_of c.args.pool.now c.args.owner.now in
     let was = c.side.invariant in
     let tile = c.find_near-tile.result in
-    let sides : c.bounds.inside.top ≡ c.args.area.top = ap (λ (e : Rect). e.top) (c.bounds.view_is ∙ c.area-bounds.ensures.value) in
+    let high : c.bounds.inside.top ≡ c.args.area.top = ap (λ (e : Rect). e.top) (c.bounds.view_is ∙ c.area-bounds.ensures.value) in
     let left : c.bounds.inside.left ≡ c.args.area.left = ap (λ (e : Rect). e.left) (c.bounds.view_is ∙ c.area-bounds.ensures.value) in
-    let top : c.line.inside.top ≡ tile.piece.rect.top = ap (λ (e : Rect). e.top) (c.line.view_is ∙ c.sides.ensures.value) in
+    let top : c.sides.inside.top ≡ tile.piece.rect.top = ap (λ (e : Rect). e.top) (c.sides.view_is ∙ c.sides-sides.ensures.value) in
     let is =
     subst (λ x. IsLaidAt (block_at tiles) (record { x = x; y = c.side.line }) tile) left (subst (λ at. IsLaidAt (block_at tiles) at tile) c.at.ensures c.find_near-tile.ensures) in
     let lines = holds_between tile.piece.rect c.args.area.left c.side.line is.held in
     record {
       listed =
           rw (top, c.push_reserved.ensures.items)
-          (side_push (block_at tiles) c.args.area c.side.list.items c.side.line tile c.requires.plane.plane.tiling c.area-bounds.ensures.legal was.listed was.low
-          (omega (arith, sides, c.side-test.true)) is);
+          (side_push (block_at tiles) c.args.area c.side.list.items c.side.line c.requires.plane.plane.tiling c.area-bounds.ensures.legal was.listed tile was.low
+          (omega (arith, high, c.side-test.true)) is);
       low = omega (arith, top, lines.3, was.low);
       room = c.push_reserved.ensures.capacity ∙ was.room;
     }

@@ -1,18 +1,18 @@
--- This is the next right neighbour of the parent.
-use Rattle.std.proofs.Common.{◌≡◌, ◌≤◌, vec_len, vec_capacity}
+-- The right neighbours of the parent are passed down to the line.
+use Rattle.std.proofs.Common.{◌≡◌, ◌≤◌, get_or, vec_len, vec_capacity}
 use Rattle.mls_tilepool.specs.Pools.{tiles_of}
-use Rattle.mls_stitch.specs.Enumerations.{IsBeside}
-use Rattle.mls_stitch.specs.Neighbours.{IsHeld, laid_of}
 use Rattle.mls_stitch.specs.Tilings.{block_at}
+use Rattle.mls_stitch.specs.declared.laid_tile.LaidTile.{LaidTile}
+use Rattle.mls_stitch.proofs.Listings.{ArePassed}
 use Rattle.mls_stitch.proofs.enumeration.push_children.Given as goal
 
 abbrev pub invariant-neighbours : goal.invariant-neighbours
 invariant-neighbours l = record {
-  held : IsHeld (tiles_of l.pool l.owner) l.neighbour;
-  beside : IsBeside (block_at (tiles_of l.pool l.owner)) l.area l.list.items l.index l.parent (laid_of (tiles_of l.pool l.owner) l.neighbour);
+  passed : (parent : LaidTile) → ((d : LaidTile) → get_or l.initial.list.items l.index d ≡ parent)
+      → ArePassed (block_at (tiles_of l.pool l.owner)) l.fn.area l.list.items l.index l.line parent l.next;
   longer : vec_len l.initial.list ≤ vec_len l.list;
   room : vec_capacity l.list ≡ vec_capacity l.initial.list;
 }
 
 abbrev pub decreases-neighbours : goal.decreases-neighbours
-decreases-neighbours l = l.neighbour.tile.corner.y
+decreases-neighbours l = l.line

@@ -1,23 +1,48 @@
 -- One search was enough, or several were gathered.
-use Rattle.std.proofs.Common.{not, ap, ◌∙◌}
+use Rattle.std.proofs.Common.{ap, arith}
 use Rattle.mls_tilepool.specs.Pools.{tiles_of}
-use Rattle.mls_stitch.specs.Areas.{ListTouched}
+use Rattle.mls_stitch.specs.Gathering.{HasTouched}
 use Rattle.mls_stitch.specs.Tilings.{block_at}
-use Rattle.mls_stitch.proofs.TouchedTiles.{ListTouched-AreInArea}
+use Rattle.mls_stitch.proofs.Gathered.{AreMet-MeetArea}
+use Rattle.mls_stitch.proofs.ListedTiles.{length-le-AreLaid}
+use Rattle.mls_stitch.proofs.TouchedTiles.{HasTouched-met, ListTouched-AreInArea, ListTouched-passed, touched_keeps}
 use Rattle.mls_stitch.proofs.plane.Plane.touching.Goals as goal
-use Rattle.mls_stitch.proofs.plane.Plane.touching.Goals.{then-is_none, else-is_none}
+use Rattle.mls_stitch.proofs.plane.Plane.touching.Goals.{else-not-list_round_each, then-not-list_round_each}
 
 -- with no turns all tiles are such a list
 pub returns-then-turns-eq0-clause-touched : goal.returns-then-turns-eq0-clause-touched
 returns-then-turns-eq0-clause-touched c =
     ListTouched-AreInArea (tiles_of c.args.pool.now c.args.self.now) c.args.over.now c.strips_of.new.scratch.tiles c.requires.plane.plane c.strips_of.ensures.found
 
--- however they were gathered
-gathered : (c : goal.After-keep_first) → ListTouched (block_at (tiles_of c.args.pool.now c.args.self.now)) c.args.over.now c.if-is_none.scratch.tiles
-gathered c = elim c.if-is_none.branch [
-  | then-is_none w ↦ rw w.scratch-is w.list_touched.ensures.touched
-  | else-is_none w ↦ rw w.scratch-is (c.list_round_first-searched.ensures.touched (c.is_none.ensures ∙ ap not w.if-is_none.false))
-]
+-- one search has found the tiles of the area, each once, and with them those that the pieces in it touch
+pub returns-in-Some-clause-touched : goal.returns-in-Some-clause-touched
+returns-in-Some-clause-touched c =
+    let tiles = tiles_of c.args.pool.now c.args.self.now in
+    let found = c.search.new.list.items in
+    let met = AreMet-MeetArea (block_at tiles) c.grow-area.result found c.requires.plane.plane.tiling c.search.ensures.found in
+    ListTouched-passed (block_at tiles) c.args.over.now found
+    (HasTouched-met tiles c.args.over.now c.in-Some.bounds c.grow-area.result found c.requires.plane.plane c.in-Some.ensures c.grow-area.ensures.squares met) c.search.ensures.once
+
+pub returns-in-Some-clause-few : goal.returns-in-Some-clause-few
+returns-in-Some-clause-few c =
+    omega
+    (arith, length-le-AreLaid (tiles_of c.args.pool.now c.args.self.now) c.search.new.list.items (λ k d within. (c.search.ensures.found.each k d within).laid) c.search.ensures.once)
+
+-- however they were gathered, all touched tiles are listed
+gathered : (c : goal.After-keep) → HasTouched (block_at (tiles_of c.args.pool.now c.args.self.now)) c.args.over.now c.sort_dedup.new.entries.items
+gathered c =
+    let blocks = block_at (tiles_of c.args.pool.now c.args.self.now) in
+    let over = c.args.over.now in
+    let before : HasTouched blocks over c.if-not-list_round_each.scratch-inside.tiles.items = elim c.if-not-list_round_each.branch [
+      | then-not-list_round_each w ↦ rw w.scratch-inside-is (rw c.self.view_is at w.list_round_all.ensures.touched)
+      | else-not-list_round_each w ↦ rw (w.scratch-inside-is, ap (λ s. s.tiles) c.scratch-2.view_is) (rw c.self.view_is at c.list_round_each.ensures.touched w.if-not-list_round_each.false)
+    ] in
+    touched_keeps blocks over c.if-not-list_round_each.scratch-inside.tiles.items c.sort_dedup.new.entries.items before c.sort_dedup.ensures.keeps
 
 pub returns-clause-touched : goal.returns-clause-touched
-returns-clause-touched c = rw (ap (λ s. s.tiles) c.scratch-2.view_is) (gathered c)
+returns-clause-touched c =
+    ListTouched-passed (block_at (tiles_of c.args.pool.now c.args.self.now)) c.args.over.now c.sort_dedup.new.entries.items (gathered c) c.sort_dedup.ensures.once
+
+pub returns-clause-few : goal.returns-clause-few
+returns-clause-few c =
+    omega (arith, length-le-AreLaid (tiles_of c.args.pool.now c.args.self.now) c.sort_dedup.new.entries.items (gathered c).each c.sort_dedup.ensures.once, c.sort_dedup.new.entries.ok.0)

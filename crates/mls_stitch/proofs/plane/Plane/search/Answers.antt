@@ -4,12 +4,12 @@ use Rattle.mls_geom.specs.World.{world}
 use Rattle.mls_tilepool.specs.Pools.{tiles_of}
 use Rattle.mls_stitch.specs.Enumerations.{IsListedTo}
 use Rattle.mls_stitch.specs.Tilings.{block_at}
-use Rattle.mls_stitch.proofs.FoundTiles.{MeetArea-listed}
-use Rattle.mls_stitch.proofs.plane.Plane.meeting.Goals as goal
+use Rattle.mls_stitch.proofs.Listings.{MeetArea-listed}
+use Rattle.mls_stitch.proofs.plane.Plane.search.Goals as goal
 
 pub returns-clause-found : goal.returns-clause-found
 returns-clause-found c =
     let blocks = block_at (tiles_of c.args.pool.now c.args.self.now) in
-    let list = c.search.new.list in
-    MeetArea-listed blocks c.args.area list.items c.requires.plane.plane.tiling c.search.ensures.legal
-    (subst (λ n. IsListedTo blocks c.args.area list.items n world.top) list.ok.0 c.search.ensures.listed)
+    let list = c.list_tiles.new.list in
+    MeetArea-listed blocks c.args.area c.requires.plane.plane.tiling c.list_tiles.ensures.legal list.items
+    (subst (λ n. IsListedTo blocks c.args.area list.items n world.top) list.ok.0 (rw c.self.view_is at c.list_tiles.ensures.listed))
