@@ -1,8 +1,8 @@
 -- What area search found, once it is sorted.
-use Rattle.std.proofs.Common.{◌≡◌, ◌≢◌, ℕ, ◌<◌, true, false, Ordering, ◌&&◌, ◌||◌, ◌==◌, nat_lt, max, List, get_or, Option, AllPairs, IsPermutation, inl, inr, sym, ap, ◌∙◌, subst, arith}
+use Rattle.std.proofs.Common.{◌≡◌, ◌≢◌, ℕ, true, false, Ordering, ◌&&◌, ◌||◌, ◌==◌, nat_lt, max, List, get_or, Option, AllPairs, IsPermutation, inl, inr, sym, ap, ◌∙◌, subst, arith}
 use Rattle.std.specs.List.Sorted.{IsSortedByKey}
 use Rattle.std.specs.Ordering.{is_lt, nat_cmp, ordering_then}
-use Rattle.std.proofs.lemmas.Bool.{both_ways, cases_lt}
+use Rattle.std.proofs.lemmas.Bool.{cases_eq}
 use Rattle.std.proofs.lemmas.Bool.Decides.{nat_tests}
 use Rattle.std.proofs.lemmas.Cmp.{nat_cmp_total, on_total, then_total}
 use Rattle.std.proofs.lemmas.List.Sorted.{All-permutation, ranks_by, sorted_far}
@@ -36,30 +36,15 @@ none_first area list sorted i j d before within =
     sym (row_before (first_row area q) q.piece.rect.left (first_row area p) p.piece.rect.left)
     ∙ sorted_far (λ x y. is_lt (row_cmp (place_of area x) (place_of area y))) (ranks_by (then_total (on_total (λ (p : ℕ × ℕ). p.0) nat_cmp_total) (on_total (λ (p : ℕ × ℕ). p.1) nat_cmp_total)) (place_of area)) list sorted i j d (omega (arith, before)) within
 
-lower_first : (p q left right : ℕ) → p < q → (nat_lt p q || (p == q && nat_lt left right)) ≡ true
-lower_first p q left right lower = grind (arith, nat_tests)
-
-left_first : (p q left right : ℕ) → p ≡ q → left < right → (nat_lt p q || (p == q && nat_lt left right)) ≡ true
-left_first p q left right level before = grind (arith, nat_tests)
-
 -- of two different places the one that does not come second comes first
 first_of : (p q left right : ℕ) → (nat_lt q p || (q == p && nat_lt right left)) ≡ false → ((p ≡ q) × (left ≡ right) → ⊥) → (nat_lt p q || (p == q && nat_lt left right)) ≡ true
-first_of p q left right not_after differ = elim (cases_lt p q) [
-  | inl lower ↦ lower_first p q left right lower
-  | inr upper ↦
-      elim (cases_lt q p) [
-        | inl higher ↦ absurd (both_ways _ not_after (lower_first q p right left higher))
-        | inr level ↦
-            let same : p ≡ q = omega (arith, upper, level) in
-            elim (cases_lt left right) [
-              | inl before ↦ left_first p q left right same before
-              | inr after ↦
-                  elim (cases_lt right left) [
-                    | inl behind ↦ absurd (both_ways _ not_after (left_first q p right left (sym same) behind))
-                    | inr there ↦ absurd (differ (same, omega (arith, after, there)))
-                  ]
-            ]
+first_of p q left right not_after differ = elim (cases_eq p q) [
+  | inl level ↦
+      elim (cases_eq left right) [
+        | inl same ↦ absurd (differ (level, same))
+        | inr apart ↦ grind (arith, nat_tests)
       ]
+  | inr apart ↦ grind (arith, nat_tests)
 ]
 
 module _ (blocks : ℕ → Option Piece) (area : Rect) (tiling : AreBlocks blocks) (inside : IsRectangleIn world area) where

@@ -139,6 +139,7 @@ pub record ArePassed (blocks : ℕ → Option Piece) (area : Rect) (list : List 
   pub within : index < length list
   pub here : (d : LaidTile) → get_or list index d ≡ parent
   pub up_to : line ≤ parent.piece.rect.top
+  pub before_end : parent.piece.rect.right < area.right
   pub leads : LeadsTo blocks next (record { x = parent.piece.rect.right; y = line - 1 })
   -- the last one that was passed lies on top of it
   pub told : line < parent.piece.rect.top → (tile : LaidTile) → IsLaidAt blocks (record { x = parent.piece.rect.right; y = line - 1 }) tile → tile.piece.rect.top ≡ line
@@ -305,15 +306,14 @@ module _ (blocks : ℕ → Option Piece) (area : Rect) (tiling : AreBlocks block
 
   -- there is a next one down to the parent's first row
   pub next_there :
-      (list : List LaidTile) (index line : ℕ) (parent : LaidTile) (next : Option ℕ) → ArePassed blocks area list index line parent next → parent.piece.rect.right < area.right
-      → first_row area parent < line → IsSome next
-  next_there list index line parent next was before_end not_last = go next was.leads where
+      (list : List LaidTile) (index line : ℕ) (parent : LaidTile) (next : Option ℕ) → ArePassed blocks area list index line parent next → first_row area parent < line → IsSome next
+  next_there list index line parent next was not_last = go next was.leads where
     go : (stitch : Option ℕ) → LeadsTo blocks stitch (record { x = parent.piece.rect.right; y = line - 1 }) → IsSome stitch
     go None outside =
         let found = subst (IsFound blocks area) (was.here parent) (was.listed.each index parent was.within) in
         let sides = legal parent found.laid in
         absurd (both_ways _ outside
-        (between_holds world parent.piece.rect.right (line - 1) (omega (arith, sides.wide, sides.left_in)) (omega (arith, before_end, inside.right_in)) (omega (arith, not_last, sides.bottom_in))
+        (between_holds world parent.piece.rect.right (line - 1) (omega (arith, sides.wide, sides.left_in)) (omega (arith, was.before_end, inside.right_in)) (omega (arith, not_last, sides.bottom_in))
         (omega (arith, not_last, was.up_to, sides.top_in))))
     go (Some key) held = refl
 
@@ -413,14 +413,16 @@ module _ (tiles : List (ℕ × Tile)) (area : Rect) (plane : IsPlane tiles) (ins
   -- the first right neighbour comes next
   pub passed_none :
       (list : List LaidTile) (index : ℕ) (parent : LaidTile) (tile : Tile) → IsListedTo (block_at tiles) area list index world.top → index < length list
-      → ((d : LaidTile) → get_or list index d ≡ parent) → tile_in tiles parent.id ≡ Some tile → ArePassed (block_at tiles) area list index parent.piece.rect.top parent tile.tr
-  passed_none list index parent tile listed within here is =
+      → ((d : LaidTile) → get_or list index d ≡ parent) → parent.piece.rect.right < area.right → tile_in tiles parent.id ≡ Some tile
+      → ArePassed (block_at tiles) area list index parent.piece.rect.top parent tile.tr
+  passed_none list index parent tile listed within here before_end is =
       let laid = subst (IsFound (block_at tiles) area) (here parent) (listed.each index parent within) in
       record {
         listed = listed_from_top (block_at tiles) area plane.tiling inside list index parent listed within here;
         within = within;
         here = here;
         up_to = omega arith;
+        before_end = before_end;
         leads = plane.stitched parent.id tile parent.piece Tr is laid.laid;
         told = λ lower. absurd (omega (arith, lower));
       }
@@ -435,9 +437,9 @@ module _ (tiles : List (ℕ × Tile)) (area : Rect) (plane : IsPlane tiles) (ins
   -- and is the next right neighbour
   pub beside_next :
       (list : List LaidTile) (index line id : ℕ) (parent : LaidTile) (next : Option ℕ) (tile : Tile) → ArePassed (block_at tiles) area list index line parent next
-      → parent.piece.rect.right < area.right → first_row area parent < line → next ≡ Some id → tile_in tiles id ≡ Some tile
+      → first_row area parent < line → next ≡ Some id → tile_in tiles id ≡ Some tile
       → IsBeside (block_at tiles) area list index line parent (record { id = id; piece = block_of tiles tile })
-  beside_next list index line id parent next tile was before_end not_last named there =
+  beside_next list index line id parent next tile was not_last named there =
       let at : Point = record { x = parent.piece.rect.right; y = line - 1 } in
       let laid : block_at tiles id ≡ Some (block_of tiles tile) = ap (option_map (block_of tiles)) there in
       let is : IsLaidAt (block_at tiles) at (record { id = id; piece = block_of tiles tile }) =
@@ -447,7 +449,7 @@ module _ (tiles : List (ℕ × Tile)) (area : Rect) (plane : IsPlane tiles) (ins
         within = was.within;
         here = was.here;
         up_to = was.up_to;
-        before_end = before_end;
+        before_end = was.before_end;
         not_last = not_last;
         told = λ lower. was.told lower (record { id = id; piece = block_of tiles tile }) is;
         beside = is;
@@ -470,6 +472,7 @@ module _ (tiles : List (ℕ × Tile)) (area : Rect) (plane : IsPlane tiles) (ins
           within = within;
           here = here;
           up_to = omega (arith, lines.2, was.up_to);
+          before_end = was.before_end;
           leads = subst (λ x. LeadsTo (block_at tiles) tile.lb (record { x = x; y = tile.corner.y - 1 })) at_right (plane.stitched id tile this.piece Lb there was.beside.laid);
           told = λ _ below at. lower_neighbour (block_at tiles) id below.id this.piece below.piece parent.piece.rect.right plane.tiling was.beside.laid at.laid lines.0 lines.1 at.held;
         }

@@ -1,22 +1,12 @@
 -- The tiles to which stitches lead.
-use Rattle.std.proofs.Common.{◌≡◌, ℕ, List, IsTrue, true, Option, Some, None, le_refl, refl, sym, ap, ◌∙◌, subst}
-use Rattle.std.proofs.lemmas.Bool.{both_ways}
+use Rattle.std.proofs.Common.{◌≡◌, ℕ, List, Option, Some, None, sym, ap, ◌∙◌}
 use Rattle.std.proofs.lemmas.Option.{same_Some}
 use Rattle.std.specs.Option.{option_map}
-use Rattle.mls_geom.specs.Rects.{Point, holds}
-use Rattle.mls_geom.specs.World.{world}
 use Rattle.mls_geom.specs.declared.piece.Piece.{Piece}
-use Rattle.mls_tilepool.specs.Pools.{tile_in}
 use Rattle.mls_tilepool.specs.declared.tile.Tile.{Tile}
-use Rattle.mls_stitch.specs.Stitches.{HoldsAt, LeadsInside, LeadsTo, beyond, stitch_of}
-use Rattle.mls_stitch.specs.Tilings.{IsPlane, block_at, block_of}
-use Rattle.mls_stitch.specs.Walks.{IsLaid, IsLaidAt, laid_at}
+use Rattle.mls_stitch.specs.Tilings.{block_at}
+use Rattle.mls_stitch.specs.Walks.{IsLaid, laid_at}
 use Rattle.mls_stitch.specs.declared.laid_tile.LaidTile.{LaidTile}
-use Rattle.mls_stitch.specs.declared.neighbour.Neighbour.{Neighbour}
-use Rattle.mls_stitch.specs.declared.stitch.Stitch.{Stitch}
-use Rattle.mls_stitch.specs.declared.stitch.Stitch.TheVariants.{Lb}
-use Rattle.mls_stitch.proofs.ShownTiles.{tile-block_at}
-use Rattle.mls_stitch.proofs.Sides.{legal-AreBlocks, lower_neighbour, there-IsSomeAnd}
 
 laid_is : (block : Option Piece) (key : ℕ) (tile : LaidTile) → option_map (λ piece. record { id = key; piece = piece }) block ≡ Some tile → (block ≡ Some tile.piece) × (key ≡ tile.id)
 laid_is None key tile is = absurd (cc)

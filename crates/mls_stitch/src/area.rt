@@ -1,12 +1,11 @@
 //! Area search.
-ghost use Rattle.std.specs.Prelude.{◌≡◌, ◌≢◌, ◌≤◌, length, map, vec_capacity};
-ghost use Rattle.std.specs.List.{AllPairs};
+ghost use Rattle.std.specs.Prelude.{◌≡◌, ◌≤◌, Some, length, map, vec_capacity};
 ghost use Rattle.mls_geom.specs.Pictures.{picture_of};
 ghost use Rattle.mls_geom.specs.Rects.{IsRectangleIn};
 ghost use Rattle.mls_geom.specs.Strips.{AreStrips};
 ghost use Rattle.mls_geom.specs.World.{world};
 ghost use Rattle.mls_tilepool.specs.Pools.{count_of, tiles_of};
-ghost use Rattle.mls_stitch.specs.Areas.{AreInArea, MeetArea};
+ghost use Rattle.mls_stitch.specs.Areas.{AreInArea, AreSearched, MeetArea};
 ghost use Rattle.mls_stitch.specs.Tilings.{HasPlane, IsMaximal, block_at, shown};
 
 use crate::enumeration::{list_tiles, sort_rows};
@@ -30,8 +29,7 @@ impl Plane {
         requires plane { HasPlane pool.now self.now }
         requires room { count_of pool.now self.now ≤ vec_capacity list.old }
         ensures legal { IsRectangleIn world area }
-        ensures found { MeetArea (block_at (tiles_of pool.now self.now)) area list.new.items }
-        ensures once { AllPairs (λ p q. p.id ≢ q.id) list.new.items }
+        ensures found { AreSearched (block_at (tiles_of pool.now self.now)) (Some area) list.new.items }
         ensures room { vec_capacity list.new ≡ vec_capacity list.old }
     {
         let from = hints.start(pool, &self.owner, near);

@@ -50,8 +50,10 @@ fn push_children(
         let bottom = tile.corner.row();
         let above = tile.rt;
         next = tile.lb;
+        // A child has its first row in the area beside the parent.
         if (last_row..bounds.top).contains(&bottom.max(bounds.bottom)) {
             let right = left_beyond(pool, owner, tile.tr);
+            // The neighbour passed before ends at the line.
             let top = if line < sides.top {
                 line
             } else {

@@ -1,7 +1,6 @@
 //! Walks from tile to tile along stitches.
-ghost use Rattle.std.specs.Prelude.{◌≡◌, IfSome, MatchOption, Some};
+ghost use Rattle.std.specs.Prelude.{◌≡◌, IfSome, Some};
 ghost use Rattle.mls_tilepool.specs.Pools.{tile_at, tiles_of};
-ghost use Rattle.mls_stitch.specs.Stitches.{HoldsAt};
 ghost use Rattle.mls_stitch.specs.Tilings.{HasPlane, block_at};
 ghost use Rattle.mls_stitch.specs.Walks.{EndsAt, IsLaidAt};
 

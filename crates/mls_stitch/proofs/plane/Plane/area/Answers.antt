@@ -7,4 +7,4 @@ use Rattle.mls_stitch.proofs.plane.Plane.area.Goals as goal
 pub returns-clause-found : goal.returns-clause-found
 returns-clause-found c =
     area_found (block_at (tiles_of c.args.pool.now c.args.self.now)) c.args.area c.requires.plane.plane.tiling c.search.ensures.legal c.search.new.list.items c.sort_rows.new.list.items
-    c.search.ensures.found c.search.ensures.once c.sort_rows.ensures.same c.sort_rows.ensures.sorted
+    c.search.ensures.found.0 c.search.ensures.found.1 c.sort_rows.ensures.same c.sort_rows.ensures.sorted

@@ -11,5 +11,5 @@ pub returns-clause-found : goal.returns-clause-found
 returns-clause-found c =
     let blocks = block_at (tiles_of c.args.pool.now c.args.self.now) in
     let list = c.list_tiles.new.list in
-    MeetArea-listed blocks c.args.area c.requires.plane.plane.tiling c.list_tiles.ensures.legal list.items
-    (subst (λ n. IsListedTo blocks c.args.area list.items n world.top) list.ok.0 (rw c.self.view_is at c.list_tiles.ensures.listed))
+    let listed = subst (λ n. IsListedTo blocks c.args.area list.items n world.top) list.ok.0 (rw c.self.view_is at c.list_tiles.ensures.listed) in
+    (MeetArea-listed blocks c.args.area c.requires.plane.plane.tiling c.list_tiles.ensures.legal list.items listed, listed.once)

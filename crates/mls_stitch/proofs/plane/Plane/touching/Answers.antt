@@ -19,14 +19,14 @@ pub returns-in-Some-clause-touched : goal.returns-in-Some-clause-touched
 returns-in-Some-clause-touched c =
     let tiles = tiles_of c.args.pool.now c.args.self.now in
     let found = c.search.new.list.items in
-    let met = AreMet-MeetArea (block_at tiles) c.grow-area.result found c.requires.plane.plane.tiling c.search.ensures.found in
+    let met = AreMet-MeetArea (block_at tiles) c.grow-area.result found c.requires.plane.plane.tiling c.search.ensures.found.0 in
     ListTouched-passed (block_at tiles) c.args.over.now found
-    (HasTouched-met tiles c.args.over.now c.in-Some.bounds c.grow-area.result found c.requires.plane.plane c.in-Some.ensures c.grow-area.ensures.squares met) c.search.ensures.once
+    (HasTouched-met tiles c.args.over.now c.in-Some.bounds c.grow-area.result found c.requires.plane.plane c.in-Some.ensures c.grow-area.ensures.squares met) c.search.ensures.found.1
 
 pub returns-in-Some-clause-few : goal.returns-in-Some-clause-few
 returns-in-Some-clause-few c =
     omega
-    (arith, length-le-AreLaid (tiles_of c.args.pool.now c.args.self.now) c.search.new.list.items (λ k d within. (c.search.ensures.found.each k d within).laid) c.search.ensures.once)
+    (arith, length-le-AreLaid (tiles_of c.args.pool.now c.args.self.now) c.search.new.list.items (λ k d within. (c.search.ensures.found.0.each k d within).laid) c.search.ensures.found.1)
 
 -- however they were gathered, all touched tiles are listed
 gathered : (c : goal.After-keep) → HasTouched (block_at (tiles_of c.args.pool.now c.args.self.now)) c.args.over.now c.sort_dedup.new.entries.items
