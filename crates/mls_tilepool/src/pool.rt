@@ -255,6 +255,10 @@ impl Pool {
         ensures { ListsTiles self.now owner.now result }
     {
         let row = self.rows[owner.0 as usize];
-        Tiles::new(&self.places, row.count, row.first)
+        Tiles {
+            places: &self.places,
+            left: row.count,
+            next: row.first,
+        }
     }
 }

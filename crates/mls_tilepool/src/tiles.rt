@@ -7,9 +7,9 @@ use std::marker::Model;
 /// An iterator over an owner's tiles and their names, made by [`Pool::tiles`](crate::Pool::tiles).
 #[derive(Drop)]
 pub struct Tiles<'a> {
-    places: &'a Slab<Place>,
-    left: u32,
-    next: Option<u32>,
+    pub(crate) places: &'a Slab<Place>,
+    pub(crate) left: u32,
+    pub(crate) next: Option<u32>,
 }
 
 impl<'a> Model for Tiles<'a> {
@@ -20,17 +20,6 @@ impl<'a> Model for Tiles<'a> {
     ghost Value = { List (ℕ × Tile) };
 
     ghost view = { λ t. tiles_from t.places.now.slots t.left t.next };
-}
-
-impl<'a> Tiles<'a> {
-    ghost use Rattle.std.specs.Prelude.{◌≡◌};
-    ghost use Rattle.mls_tilepool.specs.Chains.{tiles_from};
-
-    pub(crate) fn new(places: &'a Slab<Place>, left: u32, next: Option<u32>) -> Tiles<'a>
-        ensures { result ≡ tiles_from places.now.slots left next }
-    {
-        Tiles { places, left, next }
-    }
 }
 
 impl Iterator for Tiles<'_> {
