@@ -34,23 +34,23 @@ is_unlisted keys tile = not (list_any (λ key. key == tile.id) keys)
 
 -- one more tile was found
 pub unlisted_more :
-    (keys : List ℕ) (found : List LaidTile) (i : ℕ) (tile : LaidTile) (before entries after : List LaidTile) → i < length found → tile ≡ get_or found i tile → list_any (λ key. key == tile.id) keys ≡ false
+    (keys : List ℕ) (found : List LaidTile) (i : ℕ) (tile : LaidTile) (before entries after : List LaidTile) → i < length found → tile ≡ get_or found i tile → is_unlisted keys tile ≡ true
     → entries ≡ before ++ unlisted_of keys (take i found) → after ≡ entries ++ tile ∷ [] → after ≡ before ++ unlisted_of keys (take (i + 1) found)
 unlisted_more keys found i tile before entries after within is absent so_far pushed =
     let more : unlisted_of keys (take (i + 1) found) ≡ unlisted_of keys (take i found) ++ tile ∷ [] =
     filter_more (is_unlisted keys) found i tile within
     ∙ ap (λ t. unlisted_of keys (take i found) ++ cond (is_unlisted keys t) (t ∷ []) []) (sym is)
-    ∙ ap (λ b. unlisted_of keys (take i found) ++ cond (not b) (tile ∷ []) []) absent in
+    ∙ ap (λ b. unlisted_of keys (take i found) ++ cond b (tile ∷ []) []) absent in
     pushed ∙ ap (λ l. l ++ tile ∷ []) so_far ∙ append_assoc before (unlisted_of keys (take i found)) (tile ∷ []) ∙ ap (λ l. before ++ l) (sym more)
 
 pub unlisted_skip :
-    (keys : List ℕ) (found : List LaidTile) (i : ℕ) (tile : LaidTile) (before entries : List LaidTile) → i < length found → tile ≡ get_or found i tile → list_any (λ key. key == tile.id) keys ≡ true
+    (keys : List ℕ) (found : List LaidTile) (i : ℕ) (tile : LaidTile) (before entries : List LaidTile) → i < length found → tile ≡ get_or found i tile → is_unlisted keys tile ≡ false
     → entries ≡ before ++ unlisted_of keys (take i found) → entries ≡ before ++ unlisted_of keys (take (i + 1) found)
 unlisted_skip keys found i tile before entries within is there so_far =
     let more : unlisted_of keys (take (i + 1) found) ≡ unlisted_of keys (take i found) =
     filter_more (is_unlisted keys) found i tile within
     ∙ ap (λ t. unlisted_of keys (take i found) ++ cond (is_unlisted keys t) (t ∷ []) []) (sym is)
-    ∙ ap (λ b. unlisted_of keys (take i found) ++ cond (not b) (tile ∷ []) []) there
+    ∙ ap (λ b. unlisted_of keys (take i found) ++ cond b (tile ∷ []) []) there
     ∙ append-nil (unlisted_of keys (take i found)) in
     so_far ∙ ap (λ l. before ++ l) (sym more)
 

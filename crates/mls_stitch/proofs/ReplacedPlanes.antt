@@ -1,8 +1,7 @@
 -- Fresh tiles laid in place of touched ones, and stitched with those around them.
-use Rattle.std.proofs.Common.{◌≡◌, ◌≢◌, ℕ, ◌+◌, ◌<◌, ◌≤◌, true, false, List, ◌++◌, drop, length, map, take, get_or, Option, Some, None, IsSome, IfSome, All, AllPairs, Contains, slice_get, inl, inr, refl, sym, ap, ◌∙◌, subst, subst₂, arith}
-use Rattle.std.specs.Option.{IsSomeAnd, option_map}
+use Rattle.std.proofs.Common.{◌≡◌, ◌≢◌, ℕ, ◌+◌, ◌<◌, ◌≤◌, true, false, List, ◌++◌, drop, length, map, take, get_or, Option, Some, None, IsSome, All, AllPairs, Contains, slice_get, refl, sym, ap, ◌∙◌, subst, subst₂, arith}
+use Rattle.std.specs.Option.{option_map}
 use Rattle.std.proofs.Math.Seq.{drop-append_seam, take-append_seam}
-use Rattle.std.proofs.lemmas.Bool.{cases_lt}
 use Rattle.std.proofs.lemmas.List.{get_or_default, length-map}
 use Rattle.std.proofs.lemmas.Option.{none-some, same_Some, slice_get-get_or, slice_get-map, slice_get_within}
 use Rattle.mls_geom.specs.Rects.{Point, holds}
@@ -128,15 +127,3 @@ module _
         (new : List (ℕ × Tile)) → AreTiledAs new (replaced (block_at old) touched lays.laid) → KeysDiffer old → KeysDiffer new → length new ≡ length mid → Replaces old new touched fresh
     Replaces-instead new tiled differ differ_after same =
         Replaces-replaced old new touched lays.laid plane may tiled differ differ_after fresh lays.pieces lays.again (omega (arith, same, Lays-count lays))
-
--- room that isn't enough, and room that is
-pub has_no_room : (room : Option ℕ) (wanted free : ℕ) → IsSome room → ¬ (IfSome room (λ n. wanted ≤ n + free)) → IsSomeAnd room (λ n. n + free < wanted)
-has_no_room None wanted free there few = absurd (no_value there)
-has_no_room (Some n) wanted free there few = elim (cases_lt (n + free) wanted) [
-  | inl less ↦ less
-  | inr enough ↦ absurd (few enough)
-]
-
-pub has_enough : (room : Option ℕ) (wanted free : ℕ) → IfSome room (λ n. wanted ≤ n + free) → ¬ (IsSomeAnd room (λ n. n + free < wanted))
-has_enough None wanted free enough less = less
-has_enough (Some n) wanted free enough less = omega (arith, enough, less)

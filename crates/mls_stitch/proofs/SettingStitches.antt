@@ -23,13 +23,6 @@ stitch_of-with_stitch Bl to tile = refl
 stitch_of-with_stitch Tr to tile = refl
 stitch_of-with_stitch Rt to tile = refl
 
--- a stitch that is set to what it is
-pub with_stitch-same : (stitch : Stitch) (to : Option ℕ) (tile : Tile) → stitch_of stitch tile ≡ to → with_stitch stitch to tile ≡ tile
-with_stitch-same Lb to tile same = rw (← same) refl
-with_stitch-same Bl to tile same = rw (← same) refl
-with_stitch-same Tr to tile same = rw (← same) refl
-with_stitch-same Rt to tile same = rw (← same) refl
-
 with_stitch_cases : (stitch other : Stitch) (to : Option ℕ) (tile : Tile) → (other ≡ stitch) ⊎ (stitch_of other (with_stitch stitch to tile) ≡ stitch_of other tile)
 with_stitch_cases Lb Lb to tile = inl refl
 with_stitch_cases Lb Bl to tile = inr refl

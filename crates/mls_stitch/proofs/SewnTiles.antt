@@ -1,8 +1,9 @@
 -- Tiles are stitched to fresh ones, one by one: each leads to the last of those up to the square beyond it, and the last of these lead back.
-use Rattle.std.proofs.Common.{◌≡◌, ℕ, ◌+◌, ◌-◌, ◌<◌, ◌≤◌, Bool, true, List, ◌++◌, length, take, drop, get_or, All, Some, Option, sym, ap, subst, subst₂, ◌∙◌, arith, inl, inr}
+use Rattle.std.proofs.Common.{◌≡◌, ℕ, ◌+◌, ◌-◌, ◌<◌, ◌≤◌, false, true, List, ◌++◌, length, take, drop, get_or, All, Some, Option, sym, ap, subst, subst₂, ◌∙◌, arith, inl, inr}
 use Rattle.std.specs.List.{AllWithin}
 use Rattle.std.specs.List.Sorted.{IsPermutation}
 use Rattle.std.proofs.lemmas.Bool.{cases_lt, false≢true}
+use Rattle.std.proofs.lemmas.List.{get_or_default}
 use Rattle.std.proofs.lemmas.List.Elements.{All-contains, AllWithin-more, Contains-append_cases, at_read}
 use Rattle.std.proofs.lemmas.List.Sorted.{All-permutation, IsPermutation-refl, IsPermutation-sym, IsPermutation-trans}
 use Rattle.std.proofs.lemmas.Option.{same_Some}
@@ -13,7 +14,7 @@ use Rattle.mls_stitch.proofs.FreshTiles.{entry-keys_of}
 use Rattle.mls_stitch.proofs.SettingStitches.{AreLed-later, IsSet, KeepStitches-refl, KeepStitches-set, KeepStitches-trans, set_is_right}
 use Rattle.mls_stitch.proofs.Sides.{HoldsAt-block, placed_tile}
 use Rattle.mls_stitch.proofs.TilesBeyond.{back_early, back_later, last_has_beyond}
-use Rattle.mls_stitch.specs.Lookups.{BeginUpTo, AreSortedFor, HasNoLastWith, IsLastWith, back_of, leads_to}
+use Rattle.mls_stitch.specs.Lookups.{BeginUpTo, AreSortedFor, back_of, leads_to}
 use Rattle.mls_stitch.specs.Pending.{AreInPlace, AreLed, AreListed, AreSewn, AreSewnAcross, AwaitStitches, IsLed, IsSewn, IsStitchedAt, KeepStitches}
 use Rattle.mls_stitch.specs.Stitches.{HoldsAt, LeadsTo, beyond, stitch_of}
 use Rattle.mls_stitch.specs.Tilings.{AreTiledAs}
@@ -27,76 +28,68 @@ pub record ArePartlyBack (old new : List (ℕ × Tile)) (blocks : ℕ → Option
   pub keeps : KeepStitches old new blocks
   pub done : AllWithin (λ other. IsStitchedAt new blocks (back_of stitch) other.id) entries rest count
 
--- the last of the first tiles lies as its block
-pub last_laid :
-    (blocks : ℕ → Option Piece) (test : LaidTile → Bool) (entries : List LaidTile) (count id : ℕ) (d : LaidTile) → All (IsLaid blocks) entries → count ≤ length entries → IsLastWith test entries count id
-    → blocks id ≡ Some (get_or entries (count - 1) d).piece
-last_laid blocks test entries count id d listed bound last = ap blocks (sym (last.is d)) ∙ listed (count - 1) d (omega (arith, bound, last.some))
-
 module _
     {blocks : ℕ → Option Piece} (stitch : Stitch) (tile : LaidTile) (entries : List LaidTile) (count : ℕ) (listed : All (IsLaid blocks) entries) (laid : IsLaid blocks tile)
     (sorted : AreSortedFor stitch entries) (parted : BeginUpTo stitch tile.piece.rect entries count)
   where
     -- a tile whose stitch is to lead to the last of the first ones leads to each to which it is to lead, once it is set
     pub onward_set :
-        {old new : List (ℕ × Tile)} {id : ℕ} {was : Tile} → AreInPlace old blocks → IsLastWith (λ entry. leads_to stitch tile entry) entries count id → IsSet stitch old new tile.id id was
-        → KeepStitches old new blocks × All (λ other. IsLed new blocks stitch tile other) entries
-    onward_set {id} place last change =
-        let there = last_laid blocks (λ entry. leads_to stitch tile entry) entries count id tile listed parted.bound last in
-        let held : HoldsAt blocks id (beyond stitch tile.piece.rect) = HoldsAt-block blocks id (get_or entries (count - 1) tile).piece (beyond stitch tile.piece.rect) there (last.passes tile) in
-        (KeepStitches-set tile.piece change laid held place, λ k d within led. set_is_right blocks tile.piece change laid held)
+        {old new : List (ℕ × Tile)} {was : Tile} (d : LaidTile) → AreInPlace old blocks → 0 < count → leads_to stitch tile (get_or entries (count - 1) d) ≡ true
+        → IsSet stitch old new tile.id (get_or entries (count - 1) d).id was → KeepStitches old new blocks × All (λ other. IsLed new blocks stitch tile other) entries
+    onward_set d place some leads change =
+        let last = get_or entries (count - 1) d in
+        let held : HoldsAt blocks last.id (beyond stitch tile.piece.rect) =
+        HoldsAt-block blocks last.id last.piece (beyond stitch tile.piece.rect) (listed (count - 1) d (omega (arith, parted.bound, some))) leads in
+        (KeepStitches-set tile.piece change laid held place, λ k e within led. set_is_right blocks tile.piece change laid held)
 
     -- and it does so without that, where its stitch isn't to lead to the last of the first ones
     pub onward_none :
-        {tiles : List (ℕ × Tile)} → AreInPlace tiles blocks → HasNoLastWith (λ entry. leads_to stitch tile entry) entries count
-        → KeepStitches tiles tiles blocks × All (λ other. IsLed tiles blocks stitch tile other) entries
-    onward_none place none = (
-      KeepStitches-refl place,
-      λ k d within led.
-          let (some, passes) = last_has_beyond stitch tile entries count place.tiling listed laid sorted parted k d within led in
-          absurd (false≢true (sym (none some d) ∙ passes)),
-    )
+        {tiles : List (ℕ × Tile)} → AreInPlace tiles blocks → (0 < count → (d : LaidTile) × (leads_to stitch tile (get_or entries (count - 1) d) ≡ false))
+        → All (λ other. IsLed tiles blocks stitch tile other) entries
+    onward_none place none = λ k e within led.
+        let (some, passes) = last_has_beyond stitch tile entries count place.tiling listed laid sorted parted k e within led in
+        let (d, fails) = none some in
+        absurd (false≢true (sym fails ∙ rw (get_or_default entries (count - 1) e d (omega (arith, parted.bound, some))) at passes))
 
     pub ArePartlyBack-start : {tiles : List (ℕ × Tile)} → AreInPlace tiles blocks → ArePartlyBack tiles tiles blocks stitch entries count count
     ArePartlyBack-start place = record { keeps = KeepStitches-refl place; done = λ k d low high. absurd (omega (arith, low, high)) }
 
     -- one more is set
     pub ArePartlyBack-set :
-        {old now new : List (ℕ × Tile)} {rest id : ℕ} {was : Tile} (back : Stitch) → back ≡ back_of stitch → rest ≤ count → ArePartlyBack old now blocks stitch entries rest count
-        → IsLastWith (λ entry. leads_to (back_of stitch) entry tile) entries rest id → IsSet back now new id tile.id was → ArePartlyBack old new blocks stitch entries (rest - 1) count
-    ArePartlyBack-set {now} {new} {rest} {id} {was} back is bound part last set =
-        let change : IsSet (back_of stitch) now new id tile.id was = subst (λ (s : Stitch). IsSet s now new id tile.id was) is set in
-        let e = get_or entries (rest - 1) tile in
-        let there = last_laid blocks (λ entry. leads_to (back_of stitch) entry tile) entries rest id tile listed (omega (arith, bound, parted.bound)) last in
-        let held : HoldsAt blocks tile.id (beyond (back_of stitch) e.piece.rect) = HoldsAt-block blocks tile.id tile.piece (beyond (back_of stitch) e.piece.rect) laid (last.passes tile) in
-        let keeps : KeepStitches now new blocks = KeepStitches-set e.piece change there held part.keeps.place in
-        let right : IsStitchedAt new blocks (back_of stitch) id = set_is_right blocks e.piece change there held in
+        {old now new : List (ℕ × Tile)} {rest : ℕ} {was : Tile} (back : Stitch) (d : LaidTile) → back ≡ back_of stitch → 0 < rest → rest ≤ count
+        → ArePartlyBack old now blocks stitch entries rest count → leads_to back (get_or entries (rest - 1) d) tile ≡ true
+        → IsSet back now new (get_or entries (rest - 1) d).id tile.id was → ArePartlyBack old new blocks stitch entries (rest - 1) count
+    ArePartlyBack-set {now} {new} {rest} {was} back d turned some bound part leads set =
+        let last = get_or entries (rest - 1) d in
+        let within : rest - 1 < length entries = omega (arith, parted.bound, bound, some) in
+        let held : HoldsAt blocks tile.id (beyond back last.piece.rect) = HoldsAt-block blocks tile.id tile.piece (beyond back last.piece.rect) laid leads in
+        let keeps : KeepStitches now new blocks = KeepStitches-set last.piece set (listed (rest - 1) d within) held part.keeps.place in
+        let right : IsStitchedAt new blocks (back_of stitch) last.id = rw turned at (set_is_right blocks last.piece set (listed (rest - 1) d within) held) in
         record {
           keeps = KeepStitches-trans part.keeps keeps;
-          done = λ k d low high. elim (cases_lt k rest) [
+          done = λ k e low high. elim (cases_lt k rest) [
             | inl before ↦
                 let one : k ≡ rest - 1 = omega (arith, low, before) in
-                subst (IsStitchedAt new blocks (back_of stitch)) (sym (ap (λ n. (get_or entries n d).id) one ∙ last.is d)) right
-            | inr after ↦ keeps.kept (back_of stitch) (get_or entries k d).id (part.done k d after high)
+                rw (one, get_or_default entries (rest - 1) e d within) right
+            | inr after ↦ keeps.kept (back_of stitch) (get_or entries k e).id (part.done k e after high)
           ];
         }
 
     -- none before them leads back
     pub ArePartlyBack-end :
-        {old new : List (ℕ × Tile)} {rest : ℕ} → rest ≤ count → ArePartlyBack old new blocks stitch entries rest count → HasNoLastWith (λ entry. leads_to (back_of stitch) entry tile) entries rest
-        → KeepStitches old new blocks × All (λ other. IsLed new blocks (back_of stitch) other tile) entries
-    ArePartlyBack-end {rest} bound part none = (
-      part.keeps,
-      λ k d within led.
-          let tiling = part.keeps.place.tiling in
-          let early : k < count = back_early stitch tile entries count tiling listed laid sorted parted k d within led in
-          elim (cases_lt k rest) [
-            | inl before ↦
-                let passes = back_later stitch tile entries count tiling listed laid sorted parted k (rest - 1) d (omega (arith, before)) (omega (arith, before, bound)) led in
-                absurd (false≢true (sym (none (omega (arith, before)) d) ∙ passes))
-            | inr after ↦ part.done k d after early
-          ],
-    )
+        {old new : List (ℕ × Tile)} {rest : ℕ} → rest ≤ count → ArePartlyBack old new blocks stitch entries rest count
+        → (0 < rest → (d : LaidTile) × (leads_to (back_of stitch) (get_or entries (rest - 1) d) tile ≡ false))
+        → All (λ other. IsLed new blocks (back_of stitch) other tile) entries
+    ArePartlyBack-end {rest} bound part none = λ k e within led.
+        let tiling = part.keeps.place.tiling in
+        let early : k < count = back_early stitch tile entries count tiling listed laid sorted parted k e within led in
+        elim (cases_lt k rest) [
+          | inl before ↦
+              let (d, fails) = none (omega (arith, before)) in
+              let passes = back_later stitch tile entries count tiling listed laid sorted parted k (rest - 1) e (omega (arith, before)) (omega (arith, before, bound)) led in
+              absurd (false≢true (sym fails ∙ rw (get_or_default entries (rest - 1) e d (omega (arith, parted.bound, bound, before))) at passes))
+          | inr after ↦ part.done k e after early
+        ]
 
 -- the tiles while sides are sewn: those of the first tiles are
 pub record ArePartlySewn (old new : List (ℕ × Tile)) (blocks : ℕ → Option Piece) (stitch : Stitch) (tiles fresh : List LaidTile) (index : ℕ) : Type 0 where

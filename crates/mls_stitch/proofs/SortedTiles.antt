@@ -1,5 +1,5 @@
 -- Listed tiles, sorted by their keys, with no key twice.
-use Rattle.std.proofs.Common.{◌≡◌, ◌≢◌, ℕ, ◌<◌, ◌≤◌, ◌==◌, Bool, List, [], ◌∷◌, get_or, All, AllPairs, Contains, IsPermutation, Result, Ok, Err, is_ok, inl, inr, refl, sym, ap, ◌∙◌, subst, eqb-true, zero, suc, arith}
+use Rattle.std.proofs.Common.{◌≡◌, ◌≢◌, ℕ, ◌<◌, ◌≤◌, ◌==◌, Bool, List, [], ◌∷◌, get_or, All, AllPairs, Contains, IsPermutation, Result, Ok, Err, is_err, not, inl, inr, refl, sym, ap, ◌∙◌, subst, eqb-true, zero, suc, arith}
 use Rattle.std.specs.List.{dedup, dedup_from, list_any}
 use Rattle.std.specs.Ordering.{nat_cmp}
 use Rattle.std.specs.List.Sorted.{IsBinarySearchResult, IsNonDecreasing, IsNonDecreasingBy}
@@ -97,16 +97,16 @@ KeepsKeys-refl list = record {
   keys = λ k d within. Contains-map id_of list (get_or list k d) (Contains-get_or list k d within);
 }
 
--- in a list that rises the search finds a number that is there
-pub found_listed : (keys : List ℕ) (key : ℕ) (r : Result ℕ ℕ) → IsNonDecreasing keys → IsBinarySearchResult (λ y. nat_cmp y key) keys r → is_ok r ≡ list_any (λ k. k == key) keys
-found_listed keys key (Ok i) up found =
+-- in a list that rises the search fails for a number that isn't there
+pub not_found : (keys : List ℕ) (key : ℕ) (r : Result ℕ ℕ) → IsNonDecreasing keys → IsBinarySearchResult (λ y. nat_cmp y key) keys r → is_err r ≡ not (list_any (λ k. k == key) keys)
+not_found keys key (Ok i) up found =
     let (within, here) = searched keys key (Ok i) found (λ j k before less. up j k 0 before less) in
-    sym (list_any-Contains keys key (i, within, get_or_default keys i key 0 within ∙ here))
-found_listed keys key (Err i) up found =
+    ap not (sym (list_any-Contains keys key (i, within, get_or_default keys i key 0 within ∙ here)))
+not_found keys key (Err i) up found =
     let (end, below, above) = searched keys key (Err i) found (λ j k before less. up j k 0 before less) in
-    sym (list_any-absent keys key (λ (k, within, is).
+    ap not (sym (list_any-absent keys key (λ (k, within, is).
     let at : get_or keys k 0 ≡ key = get_or_default keys k 0 key within ∙ is in
     elim (cases_lt k i) [
       | inl less ↦ omega (arith, below k less, at)
       | inr more ↦ omega (arith, above k more within, at)
-    ]))
+    ])))

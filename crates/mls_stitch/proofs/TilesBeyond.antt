@@ -1,23 +1,23 @@
 -- The tile beyond another is the last one that begins at the square beyond it or before: the tile that has that square begins on its line, and every
 -- tile that begins in between would begin on a square of that one. The tiles whose stitch leads back are the last of those that begin there or before.
-use Rattle.std.proofs.Common.{◌≡◌, ℕ, ◌-◌, ◌<◌, ◌≤◌, IsTrue, true, false, List, length, get_or, All, Option, Some, le_refl, sym, ap, ◌∙◌, arith, inl, inr}
+use Rattle.std.proofs.Common.{◌≡◌, ℕ, ◌-◌, ◌<◌, ◌≤◌, IsTrue, true, false, nat_le, List, length, get_or, All, Option, Some, le_refl, sym, ap, ◌∙◌, arith, inl, inr}
 use Rattle.std.specs.List.Sorted.{IsPartitionedBy, IsSortedByKey}
 use Rattle.std.specs.Ordering.{is_lt, nat_cmp}
-use Rattle.std.proofs.lemmas.Bool.{cases_lt, false≢true}
+use Rattle.std.proofs.lemmas.Bool.{cases_lt, false_from_ne_true, false≢true}
 use Rattle.std.proofs.lemmas.Bool.Decides.{nat_tests}
 use Rattle.std.proofs.lemmas.Cmp.{nat_cmp_total}
+use Rattle.std.proofs.lemmas.List.{get_or_default}
 use Rattle.std.proofs.lemmas.List.Sorted.{ranks_by, sorted_far}
 use Rattle.mls_geom.specs.Rects.{Rect, Point, IsRectangleIn, holds}
 use Rattle.mls_geom.specs.World.{world}
 use Rattle.mls_geom.specs.declared.piece.Piece.{Piece}
 use Rattle.mls_geom.proofs.Holds.{holds_between, between_holds}
 use Rattle.mls_stitch.proofs.Sides.{left_neighbour, legal-AreBlocks, lower_neighbour, one_block, right_neighbour, upper_neighbour}
-use Rattle.mls_stitch.specs.Lookups.{BeginUpTo, AreSortedFor, back_of, first_square, from_end, is_up_to, leads_to, place_beyond, rank_of, start_of}
+use Rattle.mls_stitch.specs.Lookups.{BeginUpTo, AreSortedFor, Place, back_of, first_square, from_end, is_up_to, leads_to, place_beyond, rank_of, start_of}
 use Rattle.mls_stitch.specs.Stitches.{beyond}
 use Rattle.mls_stitch.specs.Tilings.{AreBlocks}
 use Rattle.mls_stitch.specs.Walks.{IsLaid}
 use Rattle.mls_stitch.specs.declared.laid_tile.LaidTile.{LaidTile}
-use Rattle.mls_stitch.specs.declared.lookup.Place.{Place}
 use Rattle.mls_stitch.specs.declared.stitch.Stitch.{Stitch}
 use Rattle.mls_stitch.specs.declared.stitch.Stitch.TheVariants.{Lb, Bl, Tr, Rt}
 
@@ -152,19 +152,31 @@ between_back Rt p e c p_in e_in c_in held line from to =
     let (left, right, bottom, top) = holds_between p e.left (e.bottom - 1) held in
     between_holds p c.left (c.bottom - 1) (omega (arith, from, left)) (omega (arith, to, p_in.wide)) (omega (arith, line, bottom)) (omega (arith, line, top))
 
+-- a place along a line is less than the next line's first
+along_below : (stitch : Stitch) (p : Rect) → IsRectangleIn world p → ((start_of stitch p).along < 4294967296) × ((place_beyond stitch p).along < 4294967296)
+along_below Lb p legal = (omega arith, omega arith)
+along_below Bl p legal = (omega arith, omega arith)
+along_below Tr p legal = (omega (arith, legal.tall, legal.top_in), omega (arith, legal.top_in))
+along_below Rt p legal = (omega (arith, legal.wide, legal.right_in), omega (arith, legal.right_in))
+
 -- between two places of a line are only places of that line
+in_line :
+    (e c s : Place) → e.along < 4294967296 → c.along < 4294967296 → s.along < 4294967296 → e.line ≡ s.line → is_up_to e c ≡ true → is_up_to c s ≡ true
+    → (c.line ≡ s.line) × (e.along ≤ c.along) × (c.along ≤ s.along)
+in_line e c s e_in c_in s_in line from to =
+    let low : rank_of e ≤ rank_of c = grind (arith, nat_tests) in
+    let high : rank_of c ≤ rank_of s = grind (arith, nat_tests) in
+    (omega arith, omega arith, omega arith)
+
 one_line :
-    (e c s : Place) → e.line ≡ s.line → is_up_to e c ≡ true → is_up_to c s ≡ true → (c.line ≡ s.line) × (e.along ≤ c.along) × (c.along ≤ s.along)
-one_line e c s line from to = (grind (arith, nat_tests), grind (arith, nat_tests), grind (arith, nat_tests))
+    (stitch : Stitch) (p e c : Rect) → IsRectangleIn world p → IsRectangleIn world e → IsRectangleIn world c → (start_of stitch e).line ≡ (place_beyond stitch p).line
+    → is_up_to (start_of stitch e) (start_of stitch c) ≡ true → is_up_to (start_of stitch c) (place_beyond stitch p) ≡ true
+    → ((start_of stitch c).line ≡ (place_beyond stitch p).line) × ((start_of stitch e).along ≤ (start_of stitch c).along) × ((start_of stitch c).along ≤ (place_beyond stitch p).along)
+one_line stitch p e c p_in e_in c_in line from to =
+    in_line (start_of stitch e) (start_of stitch c) (place_beyond stitch p) (along_below stitch e e_in).0 (along_below stitch c c_in).0 (along_below stitch p p_in).1 line from to
 
 up_to_along : (p q : Place) → p.line ≡ q.line → p.along ≤ q.along → is_up_to p q ≡ true
 up_to_along p q line along = grind (arith, nat_tests)
-
-up_to_itself : (p : Place) → is_up_to p p ≡ true
-up_to_itself p = grind (arith, nat_tests)
-
-up_to_chain : (p q r : Place) → is_up_to p q ≡ true → is_up_to q r ≡ true → is_up_to p r ≡ true
-up_to_chain p q r pq qr = grind (arith, nat_tests)
 
 -- any other that begins in between is the same
 last_is :
@@ -174,10 +186,12 @@ last_is :
     → Has c.rect (beyond stitch p.rect)
 last_is {blocks} stitch from to last p e c tiling p_laid e_laid c_laid held after up_to =
     let (line, along) = begins stitch from to p e tiling p_laid e_laid held in
-    let (c_line, low, high) = one_line (start_of stitch e.rect) (start_of stitch c.rect) (place_beyond stitch p.rect) line after up_to in
-    let at = first_square stitch c.rect in
+    let p_in = legal-AreBlocks blocks from p tiling p_laid in
+    let e_in = legal-AreBlocks blocks to e tiling e_laid in
     let c_in = legal-AreBlocks blocks last c tiling c_laid in
-    let in_e = between stitch p.rect e.rect c.rect (legal-AreBlocks blocks from p tiling p_laid) (legal-AreBlocks blocks to e tiling e_laid) c_in held c_line low high in
+    let (c_line, low, high) = one_line stitch p.rect e.rect c.rect p_in e_in c_in line after up_to in
+    let at = first_square stitch c.rect in
+    let in_e = between stitch p.rect e.rect c.rect p_in e_in c_in held c_line low high in
     let in_c = has_first stitch c.rect c_in in
     rw (one_block blocks last to c e at.x at.y tiling c_laid e_laid in_c in_e) held
 
@@ -189,9 +203,11 @@ back_is :
     → Has p.rect (beyond (back_of stitch) c.rect)
 back_is {blocks} stitch from to last p e c tiling p_laid e_laid c_laid held after up_to =
     let (line, along) = begins_back stitch from to p e tiling p_laid e_laid held in
-    let (c_line, low, high) = one_line (start_of stitch e.rect) (start_of stitch c.rect) (place_beyond stitch p.rect) line after up_to in
-    between_back stitch p.rect e.rect c.rect (legal-AreBlocks blocks from p tiling p_laid) (legal-AreBlocks blocks to e tiling e_laid) (legal-AreBlocks blocks last c tiling c_laid) held
-    (c_line ∙ sym line) low high
+    let p_in = legal-AreBlocks blocks from p tiling p_laid in
+    let e_in = legal-AreBlocks blocks to e tiling e_laid in
+    let c_in = legal-AreBlocks blocks last c tiling c_laid in
+    let (c_line, low, high) = one_line stitch p.rect e.rect c.rect p_in e_in c_in line after up_to in
+    between_back stitch p.rect e.rect c.rect p_in e_in c_in held (c_line ∙ sym line) low high
 
 -- each of the tiles begins before those behind it, or with them
 up_to_later :
@@ -201,7 +217,7 @@ up_to_later stitch entries sorted j k d order within = elim (cases_lt j k) [
   | inl earlier ↦ sorted j k d earlier within
   | inr there ↦
       let one : j ≡ k = omega (arith, order, there) in
-      rw one (up_to_itself (start_of stitch (get_or entries k d).piece.rect))
+      rw one (grind (arith, nat_tests))
 ]
 
 module _
@@ -247,42 +263,44 @@ module _
         back_is stitch tile.id e.id c.id tile.piece e.piece c.piece tiling laid (listed j d (omega (arith, order, within))) (listed k d within) held
         (up_to_later stitch entries sorted j k d order within) (parted.before k d (omega arith) early)
 
--- the number of a place tells its order where places along the line are below the end
-rank_up_to : (p q : Place) → p.along < 4294967296 → q.along < 4294967296 → rank_of p ≤ rank_of q → is_up_to p q ≡ true
-rank_up_to p q below_p below_q order = grind (arith, nat_tests)
-
-along_below : (stitch : Stitch) (p : Rect) → IsRectangleIn world p → (start_of stitch p).along < 4294967296
-along_below Lb p legal = omega arith
-along_below Bl p legal = omega arith
-along_below Tr p legal = omega (arith, legal.tall, legal.top_in)
-along_below Rt p legal = omega (arith, legal.wide, legal.right_in)
-
-not_above : (m n : ℕ) → is_lt (nat_cmp n m) ≡ false → m ≤ n
+not_above : (m n : ℕ) → is_lt (nat_cmp n m) ≡ false → nat_le m n ≡ true
 not_above m n not_less = grind (arith, nat_tests)
 
 -- a sort by where the tiles begin sorts them
 pub AreSortedFor-from_sort :
-    (stitch : Stitch) (entries : List LaidTile) → All (λ entry. IsRectangleIn world entry.piece.rect) entries
-    → IsSortedByKey (λ (entry : LaidTile). rank_of (start_of stitch entry.piece.rect)) nat_cmp entries → AreSortedFor stitch entries
-AreSortedFor-from_sort stitch entries legal sorted = λ i j d below within.
-    let p = get_or entries i d in
-    let q = get_or entries j d in
-    rank_up_to (start_of stitch p.piece.rect) (start_of stitch q.piece.rect) (along_below stitch p.piece.rect (legal i d (omega (arith, below, within)))) (along_below stitch q.piece.rect (legal j d within))
-    (not_above (rank_of (start_of stitch p.piece.rect)) (rank_of (start_of stitch q.piece.rect))
-    (sorted_far _ (ranks_by nat_cmp_total (λ (entry : LaidTile). rank_of (start_of stitch entry.piece.rect))) entries sorted i j d (omega arith) within))
-
--- tiles that lie in place lie in the world
-pub AreLegal-laid :
-    (blocks : ℕ → Option Piece) (entries : List LaidTile) → AreBlocks blocks → All (IsLaid blocks) entries → All (λ entry. IsRectangleIn world entry.piece.rect) entries
-AreLegal-laid blocks entries tiling laid = λ k d within. legal-AreBlocks blocks (get_or entries k d).id (get_or entries k d).piece tiling (laid k d within)
+    (stitch : Stitch) (entries : List LaidTile) → IsSortedByKey (λ (entry : LaidTile). rank_of (start_of stitch entry.piece.rect)) nat_cmp entries → AreSortedFor stitch entries
+AreSortedFor-from_sort stitch entries sorted = λ i j d below within.
+    let rank : LaidTile → ℕ = λ entry. rank_of (start_of stitch entry.piece.rect) in
+    not_above (rank (get_or entries i d)) (rank (get_or entries j d)) (sorted_far _ (ranks_by nat_cmp_total rank) entries sorted i j d (omega arith) within)
 
 -- and parts them at each place
 pub IsPartitionedBy-sorted :
-    (stitch : Stitch) (place : Place) (entries : List LaidTile) → AreSortedFor stitch entries
-    → IsPartitionedBy (λ (entry : LaidTile). is_up_to (start_of stitch entry.piece.rect) place) entries
-IsPartitionedBy-sorted stitch place entries sorted = λ i j d below within passed. elim (cases_lt i j) [
-  | inl before ↦ up_to_chain (start_of stitch (get_or entries i d).piece.rect) (start_of stitch (get_or entries j d).piece.rect) place (sorted i j d before within) passed
-  | inr after ↦
-      let same : i ≡ j = omega arith in
-      rw same passed
-]
+    (stitch : Stitch) (place : ℕ) (entries : List LaidTile) → AreSortedFor stitch entries
+    → IsPartitionedBy (λ (entry : LaidTile). nat_le (rank_of (start_of stitch entry.piece.rect)) place) entries
+IsPartitionedBy-sorted stitch place entries sorted = λ i j d below within passed.
+    let early : is_up_to (start_of stitch (get_or entries i d).piece.rect) (start_of stitch (get_or entries j d).piece.rect) ≡ true = up_to_later stitch entries sorted i j d below within in
+    grind (arith, nat_tests)
+
+-- so the last of the first tiles and the one after them tell of all
+pub BeginUpTo-found :
+    (stitch : Stitch) (rect : Rect) (entries : List LaidTile) (count : ℕ) → AreSortedFor stitch entries → count ≤ length entries
+    → (0 < count → (e : LaidTile) × (e ≡ get_or entries (count - 1) e) × (rank_of (start_of stitch e.piece.rect) ≤ rank_of (place_beyond stitch rect)))
+    → (count < length entries → (e : LaidTile) × (e ≡ get_or entries count e) × (rank_of (place_beyond stitch rect) < rank_of (start_of stitch e.piece.rect)))
+    → BeginUpTo stitch rect entries count
+BeginUpTo-found stitch rect entries count sorted bound last next =
+    let place = place_beyond stitch rect in
+    let parts = IsPartitionedBy-sorted stitch (rank_of place) entries sorted in
+    record {
+      bound = bound;
+      before = λ k d from before.
+          let (e, is, up) = last (omega (arith, before)) in
+          let within : count - 1 < length entries = omega (arith, before, bound) in
+          let here : get_or entries (count - 1) d ≡ e = get_or_default entries (count - 1) d e within ∙ sym is in
+          let passes : is_up_to (start_of stitch e.piece.rect) place ≡ true = grind (arith, nat_tests) in
+          parts k (count - 1) d (omega arith) within (rw here passes);
+      after = λ k d from within. false_from_ne_true _ (λ passes.
+          let (e, is, above) = next (omega (arith, from, within)) in
+          let here : get_or entries count d ≡ e = get_or_default entries count d e (omega (arith, from, within)) ∙ sym is in
+          let early : is_up_to (start_of stitch e.piece.rect) place ≡ true = rw here at (parts count k d from within passes) in
+          absurd (grind (arith, nat_tests)));
+    }

@@ -1,11 +1,10 @@
 -- How the tile beyond another is looked up. A stitch sees the squares in lines: columns where it leads to a side, rows where it leads up or down. The
 -- stitches that lead down or to the left see them from the other end, so that all four see the same.
-use Rattle.std.specs.Prelude.{◌≡◌, ℕ, ◌+◌, ◌-◌, ◌*◌, ◌<◌, ◌≤◌, Bool, true, false, ◌&&◌, ◌||◌, ◌==◌, nat_lt, nat_le, IsTrue, List, length, slice_index_or}
+use Rattle.std.specs.Prelude.{◌≡◌, ℕ, ◌+◌, ◌-◌, ◌*◌, ◌≤◌, Bool, true, false, nat_le, IsTrue, List, length}
 use Rattle.std.specs.List.{AllPairs, AllWithin}
 use Rattle.mls_geom.specs.Rects.{Rect, Point, holds}
 use Rattle.mls_stitch.specs.Stitches.{beyond}
 use Rattle.mls_stitch.specs.declared.laid_tile.LaidTile.{LaidTile}
-use Rattle.mls_stitch.specs.declared.lookup.Place.{Place}
 use Rattle.mls_stitch.specs.declared.stitch.Stitch.{Stitch}
 use Rattle.mls_stitch.specs.declared.stitch.Stitch.TheVariants.{Lb, Bl, Tr, Rt}
 
@@ -16,11 +15,16 @@ back_of Bl = Tr
 back_of Tr = Bl
 back_of Rt = Lb
 
+-- a line of squares as a stitch sees it, and a place along that line
+pub record Place : Type 0 where
+  pub line : ℕ
+  pub along : ℕ
+
 -- a coordinate counted from the other end
 abbrev pub from_end : ℕ → ℕ
 from_end n = 4294967295 - n
 
--- the line of a square, and its place along that line
+-- the place of a square
 abbrev pub place_of : Stitch → Point → Place
 place_of Lb at = record { line = from_end at.y; along = from_end at.x }
 place_of Bl at = record { line = from_end at.x; along = from_end at.y }
@@ -41,13 +45,12 @@ start_of stitch rect = place_of stitch (first_square stitch rect)
 abbrev pub place_beyond : Stitch → Rect → Place
 place_beyond stitch rect = place_of stitch (beyond stitch rect)
 
--- by line, and then along it
-abbrev pub is_up_to : Place → Place → Bool
-is_up_to p q = nat_lt p.line q.line || (p.line == q.line && nat_le p.along q.along)
-
--- as one number, in that order
+-- as one number: by line, and then along it
 abbrev pub rank_of : Place → ℕ
 rank_of place = place.line * 4294967296 + place.along
+
+abbrev pub is_up_to : Place → Place → Bool
+is_up_to p q = nat_le (rank_of p) (rank_of q)
 
 -- the tiles are in the order in which they begin
 abbrev pub AreSortedFor : Stitch → List LaidTile → Type 0
@@ -62,13 +65,3 @@ pub record BeginUpTo (stitch : Stitch) (rect : Rect) (entries : List LaidTile) (
   pub bound : count ≤ length entries
   pub before : AllWithin (λ entry. is_up_to (start_of stitch entry.piece.rect) (place_beyond stitch rect) ≡ true) entries 0 count
   pub after : AllWithin (λ entry. is_up_to (start_of stitch entry.piece.rect) (place_beyond stitch rect) ≡ false) entries count (length entries)
-
--- the last of the first tiles is the one under this key, and passes the test
-pub record IsLastWith (test : LaidTile → Bool) (entries : List LaidTile) (count id : ℕ) : Type 0 where
-  pub some : 0 < count
-  pub is : (d : LaidTile) → (slice_index_or entries (count - 1) d).id ≡ id
-  pub passes : (d : LaidTile) → test (slice_index_or entries (count - 1) d) ≡ true
-
--- the last of the first tiles doesn't pass the test, if there is one
-abbrev pub HasNoLastWith : (LaidTile → Bool) → List LaidTile → ℕ → Type 0
-HasNoLastWith test entries count = 0 < count → (d : LaidTile) → test (slice_index_or entries (count - 1) d) ≡ false

@@ -1,12 +1,11 @@
 //! The tiles around touched ones.
-ghost use Rattle.std.specs.Prelude.{◌≡◌, ◌≢◌, ◌==◌, ◌↔◌, ◌⊎◌, ◌++◌, ℕ, ◌+◌, ◌≤◌, IsSome, IsTrue, filter, length, vec_len, vec_capacity};
-ghost use Rattle.std.specs.List.{All, AllPairs, Contains, list_any};
+ghost use Rattle.std.specs.Prelude.{◌≡◌, ◌≢◌, ◌↔◌, ◌⊎◌, ◌++◌, ℕ, ◌+◌, ◌≤◌, IsSome, IsTrue, filter, length, vec_len, vec_capacity};
+ghost use Rattle.std.specs.List.{All, AllPairs, Contains};
 ghost use Rattle.std.specs.List.Sorted.{IsNonDecreasing};
 ghost use Rattle.mls_tilepool.specs.Pools.{count_of, tile_at, tiles_of};
 ghost use Rattle.mls_geom.specs.Rects.{meets};
 ghost use Rattle.mls_stitch.specs.Areas.{AreSearched};
 ghost use Rattle.mls_stitch.specs.Placing.{IsLost, KeepsKeys, Surround, unlisted_of};
-ghost use Rattle.mls_stitch.specs.Replacements.{IsHeld};
 ghost use Rattle.mls_stitch.specs.Tilings.{HasPlane, block_at};
 
 use crate::bounds::bounds_of_tiles;
@@ -34,14 +33,6 @@ fn list_keys(touched: &[TileId], keys: &mut Vec<usize>)
         keys.push_reserved(id.key());
     }
     keys.sort_unstable();
-}
-
-/// Returns whether the key is listed.
-fn is_listed(keys: &[usize], id: TileId) -> bool
-    requires { IsNonDecreasing keys.now }
-    ensures { result ≡ list_any (λ key. key == id) keys.now }
-{
-    keys.binary_search(&id.key()).is_ok()
 }
 
 /// Sorts the tiles by their names, and removes duplicates.
@@ -74,35 +65,9 @@ fn list_kept(found: &[LaidTile], keys: &[usize], entries: &mut Vec<LaidTile>)
     ensures room { vec_capacity entries.new ≡ vec_capacity entries.old }
 {
     for tile in found {
-        if !is_listed(keys, tile.id) {
+        if keys.binary_search(&tile.id.key()).is_err() {
             entries.push_reserved(*tile);
         }
-    }
-}
-
-/// Lists the tiles in the bounds of the touched ones and next to them, other than the touched ones.
-fn list_round_all(
-    pool: &Pool,
-    owner: &Owner,
-    touched: &[TileId],
-    keys: &[usize],
-    found: &mut Vec<LaidTile>,
-    entries: &mut Vec<LaidTile>,
-)
-    requires plane { HasPlane pool.now owner.now }
-    requires there { All (λ key. IsSome (tile_at pool.now owner.now key)) touched.now }
-    requires ascending { IsNonDecreasing keys.now }
-    requires found_fit { count_of pool.now owner.now ≤ vec_capacity found.old }
-    requires entries_fit { count_of pool.now owner.now ≤ vec_capacity entries.old }
-    ensures around { Surround (block_at (tiles_of pool.now owner.now)) keys.now
-        (IsHeld (block_at (tiles_of pool.now owner.now)) touched.now) entries.new.items }
-    ensures found_room { vec_capacity found.new ≡ vec_capacity found.old }
-    ensures entries_room { vec_capacity entries.new ≡ vec_capacity entries.old }
-{
-    entries.clear();
-    if let Some(bounds) = bounds_of_tiles(pool, owner, touched) {
-        scan_area(pool, owner, bounds.grow(1), found);
-        list_kept(found, keys, entries);
     }
 }
 
@@ -210,7 +175,11 @@ pub(crate) fn list_around(
     let touched = replacement.touched;
     list_keys(touched, keys);
     if !list_round_lost(pool, owner, replacement, keys, found, entries) {
-        list_round_all(pool, owner, touched, keys, found, entries);
+        entries.clear();
+        if let Some(bounds) = bounds_of_tiles(pool, owner, touched) {
+            scan_area(pool, owner, bounds.grow(1), found);
+            list_kept(found, keys, entries);
+        }
     }
     sort_dedup(entries);
 }

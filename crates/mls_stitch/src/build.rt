@@ -7,7 +7,7 @@ ghost use Rattle.mls_geom.specs.Pictures.{picture_of};
 ghost use Rattle.mls_geom.specs.World.{world};
 
 use crate::place::place_all;
-use crate::stitching::stitch_listed;
+use crate::stitching::stitch_from;
 use crate::{Plane, Scratch};
 use mls_geom::Piece;
 use mls_tilepool::{Owner, Pool};
@@ -32,7 +32,7 @@ impl Plane {
     {
         scratch.entries.clear();
         place_all(pool, &owner, pieces, &mut scratch.entries);
-        stitch_listed(pool, &owner, &[], &mut scratch.entries, &mut scratch.found);
+        stitch_from(pool, &owner, 0, &mut scratch.entries, &mut scratch.found);
         Plane { owner }
     }
 }

@@ -2,43 +2,13 @@
 ghost use Rattle.std.specs.Prelude.{◌≡◌, ◌≢◌, ◌+◌, ◌≤◌, [], IfSome, IsSome, length, vec_len, vec_capacity};
 ghost use Rattle.std.specs.List.{All, AllPairs};
 ghost use Rattle.mls_tilepool.specs.Pools.{IsOwner, count_of, room_of, tile_at, tiles_of};
-ghost use Rattle.mls_stitch.specs.Placing.{GiveWay, Lays, moved_tile, unstitched};
+ghost use Rattle.mls_stitch.specs.Placing.{GiveWay, Lays};
 ghost use Rattle.mls_stitch.specs.Tilings.{ChangesOnly};
 
 use crate::lookup::inside_only;
 use crate::{LaidTile, Stitch};
 use mls_geom::Piece;
 use mls_tilepool::{Owner, Pool, Tile, TileId};
-
-/// Returns the tile of a piece, with no stitch.
-fn unstitched_tile(piece: &Piece) -> Tile
-    ensures { result ≡ unstitched piece.now }
-{
-    Tile {
-        corner: piece.rect.corner(),
-        kind: piece.kind,
-        lb: None,
-        bl: None,
-        tr: None,
-        rt: None,
-    }
-}
-
-/// Returns the tile with the corner and the kind of the piece, and those of its stitches that lead into the world from
-/// there.
-fn moved_tile(tile: &Tile, piece: &Piece) -> Tile
-    ensures { result ≡ moved_tile piece.now tile.now }
-{
-    let rect = piece.rect;
-    Tile {
-        corner: rect.corner(),
-        kind: piece.kind,
-        lb: inside_only(Stitch::Lb, rect, tile.lb),
-        bl: inside_only(Stitch::Bl, rect, tile.bl),
-        tr: inside_only(Stitch::Tr, rect, tile.tr),
-        rt: inside_only(Stitch::Rt, rect, tile.rt),
-    }
-}
 
 /// Adds a tile for each piece, and lists it.
 pub(crate) fn place_all(
@@ -57,14 +27,23 @@ pub(crate) fn place_all(
     ensures room { vec_capacity entries.new ≡ vec_capacity entries.old }
 {
     for piece in pieces {
-        let Ok(id) = pool.add(owner, unstitched_tile(piece)) else {
+        let tile = Tile {
+            corner: piece.rect.corner(),
+            kind: piece.kind,
+            lb: None,
+            bl: None,
+            tr: None,
+            rt: None,
+        };
+        let Ok(id) = pool.add(owner, tile) else {
             unreachable!();
         };
         entries.push_reserved(LaidTile { id, piece: *piece });
     }
 }
 
-/// Moves the tile under each key to the piece beside it, and lists it.
+/// Moves the tile under each key to the piece beside it, with those of its stitches that lead into the world from there,
+/// and lists it.
 fn place_again(
     pool: &mut Pool,
     owner: &Owner,
@@ -83,7 +62,16 @@ fn place_again(
 {
     for (id, piece) in ids.iter().zip(pieces) {
         let tile = pool.get(owner, *id).unwrap();
-        pool.set(owner, *id, moved_tile(&tile, piece));
+        let rect = piece.rect;
+        let moved = Tile {
+            corner: rect.corner(),
+            kind: piece.kind,
+            lb: inside_only(Stitch::Lb, rect, tile.lb),
+            bl: inside_only(Stitch::Bl, rect, tile.bl),
+            tr: inside_only(Stitch::Tr, rect, tile.tr),
+            rt: inside_only(Stitch::Rt, rect, tile.rt),
+        };
+        pool.set(owner, *id, moved);
         entries.push_reserved(LaidTile {
             id: *id,
             piece: *piece,

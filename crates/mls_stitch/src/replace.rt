@@ -1,6 +1,6 @@
 //! Replacing tiles.
-ghost use Rattle.std.specs.Prelude.{◌≡◌, ◌+◌, ◌<◌, ◌≤◌, ◌↔◌, IfSome, OnOk, OnErr, IsErr, IsSomeAnd, IsTrue, length};
-ghost use Rattle.mls_tilepool.specs.Pools.{IsOwner, count_of, room_of, tiles_of};
+ghost use Rattle.std.specs.Prelude.{◌≡◌, ◌+◌, ◌<◌, ◌≤◌, ◌↔◌, IfSome, OnOk, OnErr, IsErr, IsSomeAnd, length};
+ghost use Rattle.mls_tilepool.specs.Pools.{count_of, room_of, tiles_of};
 ghost use Rattle.mls_stitch.specs.Areas.{AreSearched};
 ghost use Rattle.mls_stitch.specs.Tilings.{ChangesOnly, HasPlane, block_at};
 ghost use Rattle.mls_stitch.specs.Replacements.{Replaces, TakePlace};
@@ -9,19 +9,7 @@ use crate::around::list_around;
 use crate::place::place_instead;
 use crate::stitching::stitch_from;
 use crate::{Plane, Replacement, Scratch};
-use mls_tilepool::{NoRoom, Owner, Pool};
-
-/// Returns whether the owner's room is enough once as many tiles as are touched have given way to the fresh ones.
-fn has_room(pool: &Pool, owner: &Owner, touched: usize, fresh: usize) -> bool
-    requires live { IsOwner pool.now owner.now }
-    requires there { touched ≤ count_of pool.now owner.now }
-    ensures room { IsTrue result ↔ IfSome (room_of pool.now owner.now)
-        (λ room. count_of pool.now owner.now + fresh ≤ room + touched) }
-    ensures within { IfSome (room_of pool.now owner.now) (λ room. count_of pool.now owner.now ≤ room) }
-{
-    let unused = pool.room(owner) - pool.count(owner);
-    fresh <= unused as usize + touched
-}
+use mls_tilepool::{NoRoom, Pool};
 
 impl Plane {
     /// Replaces the touched tiles by pieces over exactly their squares.
@@ -56,7 +44,8 @@ impl Plane {
     {
         let touched = replacement.touched;
         let fresh = replacement.fresh;
-        if !has_room(pool, &self.owner, touched.len(), fresh.len()) {
+        let unused = (pool.room(&self.owner) - pool.count(&self.owner)) as usize;
+        if fresh.len() > unused + touched.len() {
             return Err(NoRoom);
         }
         list_around(

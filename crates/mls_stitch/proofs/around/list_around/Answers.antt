@@ -1,13 +1,13 @@
 -- Round the squares that are lost, or round all touched tiles.
-use Rattle.std.proofs.Common.{arith}
+use Rattle.std.proofs.Common.{[], length, ap, arith}
 use Rattle.mls_tilepool.specs.Pools.{tiles_of}
 use Rattle.mls_stitch.specs.Placing.{IsLost, Surround}
 use Rattle.mls_stitch.specs.Replacements.{IsHeld}
 use Rattle.mls_stitch.specs.Tilings.{block_at}
-use Rattle.mls_stitch.proofs.AroundTiles.{Surround-fewer, Surround-keeps, Surround-keys, lost_held}
+use Rattle.mls_stitch.proofs.AroundTiles.{Surround-fewer, Surround-keeps, Surround-keys, Surround-met, held_within, lost_all, lost_held, lost_none}
 use Rattle.mls_stitch.proofs.ListedTiles.{length-le-AreLaid}
 use Rattle.mls_stitch.proofs.around.list_around.Goals as goal
-use Rattle.mls_stitch.proofs.around.list_around.Goals.{else-not-list_round_lost, then-not-list_round_lost}
+use Rattle.mls_stitch.proofs.around.list_around.Goals.{else-not-list_round_lost, then-not-list_round_lost+in-Some, then-not-list_round_lost+in_default}
 
 -- however they were gathered, all round the lost squares are listed
 gathered :
@@ -20,9 +20,15 @@ gathered c =
     let lost = IsLost blocks touched c.args.replacement.now.fresh.now in
     let keys = c.list_keys.new.keys.items in
     let before : Surround blocks keys lost c.if-not-list_round_lost.entries.items = elim c.if-not-list_round_lost.branch [
-      | then-not-list_round_lost w ↦
-          let all = rw w.deref-then-not-list_round_lost.ensures.value at w.list_round_all.ensures.around in
-          rw w.entries-is (Surround-fewer blocks keys (IsHeld blocks touched) lost w.list_round_all.new.entries.items all (λ p one. lost_held blocks touched c.args.replacement.now.fresh.now p one))
+      | then-not-list_round_lost+in-Some w ↦
+          let bounds = w.in-Some.bounds in
+          let held = IsHeld blocks touched in
+          let added = rw (w.clear.ensures.items, w.deref-in-Some.ensures.value, w.deref-in-Some-2.ensures.value) at w.list_kept.ensures.kept in
+          let met = Surround-met blocks keys held bounds w.grow.result w.scan_area.new.list.items c.requires.plane.plane.tiling
+              (λ p one. held_within blocks bounds touched p w.in-Some.ensures.round one) w.grow.ensures.squares w.scan_area.ensures.found in
+          rw (w.entries-is, added) (Surround-fewer blocks keys held lost _ met (λ p one. lost_held blocks touched c.args.replacement.now.fresh.now p one))
+      | then-not-list_round_lost+in_default w ↦ rw (w.entries-is, w.clear.ensures.items) 
+          (lost_all blocks keys touched c.args.replacement.now.fresh.now 0 [] (omega (arith, ap length w.in_default.ensures.none)) (lost_none blocks keys touched c.args.replacement.now.fresh.now))
       | else-not-list_round_lost w ↦
           rw w.entries-is (rw c.deref.ensures.value at (c.list_round_lost.ensures.around w.if-not-list_round_lost.false))
     ] in

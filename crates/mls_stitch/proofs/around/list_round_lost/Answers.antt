@@ -9,7 +9,7 @@ use Rattle.mls_stitch.specs.Enumerations.{IsListedTo}
 use Rattle.mls_stitch.specs.Gathering.{AreMet}
 use Rattle.mls_stitch.specs.Tilings.{block_at}
 use Rattle.mls_stitch.specs.declared.laid_tile.LaidTile.{LaidTile}
-use Rattle.mls_stitch.proofs.AroundTiles.{IsLostBefore, IsOneOrPart, Surround-keeps, lost_all, lost_more, lost_none, meeting_few, parts_more, parts_none, parts_skip, searched_few, searched_inside}
+use Rattle.mls_stitch.proofs.AroundTiles.{IsLostBefore, IsOneOrPart, Surround-keeps, lost_all, lost_more, meeting_few, parts_more, parts_none, parts_skip, searched_few, searched_inside}
 use Rattle.mls_stitch.proofs.Gathered.{AreMet-listed}
 use Rattle.mls_stitch.proofs.ListedTiles.{length-le-AreLaid}
 use Rattle.mls_stitch.proofs.ReplacedPlanes.{laid_as}
@@ -44,9 +44,6 @@ list_kept-requires-clause-room c =
           let few = length-le-AreLaid tiles c.free_room.new.entries.items kept.each once in
           omega (arith, few, found, c.deref.ensures.len, ap length c.deref.ensures.value, c.free_room.new.entries.ok.0, c.free_room.ensures.room, c.loop-part.invariant.entries_room, c.loop-id.invariant.entries_room, c.clear.ensures.capacity, c.requires.entries_fit)
     ]
-
-pub loop-id-init : goal.loop-id-init
-loop-id-init c = record { around = rw c.clear.ensures.items (lost_none _ _ _ _); index = refl; found_room = refl; entries_room = refl }
 
 pub loop-part-init : goal.loop-part-init
 loop-part-init c = record { around = parts_none _ _ _ _ c.loop-id.invariant.around; found_room = refl; entries_room = refl }

@@ -18,7 +18,7 @@ pub loop-id-preserved : goal.loop-id-preserved
 loop-id-preserved c =
     let turn = zip_turn c.args.ids.now c.args.pieces.now c.loop-id.yielded c.into_iter-id-iterator.result c.loop-id.id-iterator c.next.new.self c.next.result (cc) (cc) c.loop-id.yielded_by (c.in-Some.id, c.in-Some.piece) c.in-Some.is c.next.ensures.steps in
     let long : length _ ≡ length c.loop-id.yielded + 1 = length_push c.loop-id.yielded (c.in-Some.id, c.in-Some.piece) in
-    let changes = rw c.moved_tile.ensures at c.set.ensures.changes in
+    let changes = rw (c.corner.ensures, c.inside_only.ensures, c.inside_only-in-loop-id.ensures, c.inside_only-in-loop-id-2.ensures, c.inside_only-in-loop-id-3.ensures) at c.set.ensures.changes in
     let ways = GiveWay-set c.loop-id.pool c.set.new.self c.args.owner.now c.in-Some.id.now c.in-Some.piece.now c.unwrap-tile.result (sym c.get.ensures ∙ c.unwrap-tile.ensures) changes c.set.ensures.count in
     record {
       laid = rw long (Lays-next c.args.ids.now c.args.pieces.now (length c.loop-id.yielded) (record { id = c.in-Some.id.now; piece = c.in-Some.piece.now }) turn.0 turn.1 (turn.2 _) (turn.3 _) c.requires.once c.requires.there

@@ -24,7 +24,7 @@ pub loop-piece-preserved : goal.loop-piece-preserved
 loop-piece-preserved c =
     let owner = c.args.owner.now in
     let piece = c.piece-item.result in
-    let added = rw c.unstitched_tile.ensures at c.in-Ok.ensures.added in
+    let added = rw c.corner.ensures at c.in-Ok.ensures.added in
     let ways = GiveWay-add c.loop-piece.pool c.add.new.self owner c.in-Ok.id piece (c.in-Ok.ensures.unused owner) added c.in-Ok.ensures.count in
     record {
       laid = Lays-more c.args.pieces.now c.loop-piece.piece-index (record { id = c.in-Ok.id; piece = piece }) c.loop-piece-test.true (ap (λ p. p) c.piece-item.is) c.loop-piece.invariant.laid ways c.push_reserved.ensures.items;

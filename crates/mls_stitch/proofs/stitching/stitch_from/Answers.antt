@@ -1,6 +1,6 @@
--- The list is parted where the fresh tiles begin.
+-- The list is parted where the fresh tiles begin, and two rounds set the four stitches.
 use Rattle.std.proofs.Common.{◌∙◌, length, length-append, sym, ap, arith}
-use Rattle.mls_stitch.proofs.SewnTiles.{AwaitStitches-split}
+use Rattle.mls_stitch.proofs.SewnTiles.{AreTiledAs-sewn, AwaitStitches-split, ready, round}
 use Rattle.mls_stitch.proofs.stitching.stitch_from.Goals as goal
 
 pub split_at_mut-around-requires : goal.split_at_mut-around-requires
@@ -8,13 +8,8 @@ split_at_mut-around-requires c =
     let (blocks, around, fresh, is, long, waits) = c.requires.waits in
     omega (arith, ap length is, length-append around fresh, long, c.args.entries.now.ok.0, ap length c.deref_mut.ensures.value)
 
-pub stitch_listed-requires-clause-waits : goal.stitch_listed-requires-clause-waits
-stitch_listed-requires-clause-waits c =
-    let (blocks, around, fresh, is, long, waits) = c.requires.waits in
-    (blocks, AwaitStitches-split is (sym c.deref_mut.ensures.value ∙ c.split_at_mut-around.ensures.value) (c.split_at_mut-around.ensures.front_len ∙ sym long) waits)
-
-pub stitch_listed-requires-clause-room : goal.stitch_listed-requires-clause-room
-stitch_listed-requires-clause-room c =
+pub list_all-requires : goal.list_all-requires
+list_all-requires c =
     omega (
       arith,
       ap length c.split_at_mut-around.ensures.value,
@@ -25,7 +20,22 @@ stitch_listed-requires-clause-room c =
       c.args.entries.now.ok.0,
     )
 
+pub stitch_across-requires-clause-place : goal.stitch_across-requires-clause-place
+stitch_across-requires-clause-place c =
+    let (blocks, around, fresh, is, long, waits) = c.requires.waits in
+    let parted = AwaitStitches-split is (sym c.deref_mut.ensures.value ∙ c.split_at_mut-around.ensures.value) (c.split_at_mut-around.ensures.front_len ∙ sym long) waits in
+    (blocks, parted.place, parted.laid_around, parted.laid_fresh)
+
+pub stitch_across-requires-2-clause-place : goal.stitch_across-requires-2-clause-place
+stitch_across-requires-2-clause-place c =
+    let (blocks, around, fresh, is, long, waits) = c.requires.waits in
+    let parted = AwaitStitches-split is (sym c.deref_mut.ensures.value ∙ c.split_at_mut-around.ensures.value) (c.split_at_mut-around.ensures.front_len ∙ sym long) waits in
+    let next = (round (ready parted) c.stitch_across.ensures.moved (c.stitch_across.ensures.sewn blocks) (λ sewn. sewn.onward.keeps)).1 in
+    (blocks, next.place, next.laid_around, next.laid_fresh)
+
 pub returns-clause-stitched : goal.returns-clause-stitched
 returns-clause-stitched c = λ blocks around fresh is long waits.
-    c.stitch_listed.ensures.stitched blocks
-    (AwaitStitches-split is (sym c.deref_mut.ensures.value ∙ c.split_at_mut-around.ensures.value) (c.split_at_mut-around.ensures.front_len ∙ sym long) waits)
+    let parted = AwaitStitches-split is (sym c.deref_mut.ensures.value ∙ c.split_at_mut-around.ensures.value) (c.split_at_mut-around.ensures.front_len ∙ sym long) waits in
+    let (first, one) = round (ready parted) c.stitch_across.ensures.moved (c.stitch_across.ensures.sewn blocks) (λ sewn. sewn.onward.keeps) in
+    let second = c.stitch_across-2.ensures.sewn blocks one.place one.laid_around one.laid_fresh in
+    AreTiledAs-sewn parted c.stitch_across.ensures.moved c.stitch_across-2.ensures.moved first second

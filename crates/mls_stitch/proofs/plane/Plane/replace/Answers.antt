@@ -1,28 +1,22 @@
 -- The fresh tiles lie in place of the touched ones, and with those around them wait for their stitches.
-use Rattle.std.proofs.Common.{◌+◌, length, refl, ap, subst, arith}
+use Rattle.std.proofs.Common.{refl, ap, subst, arith}
 use Rattle.std.proofs.lemmas.Bool.{both_ways}
-use Rattle.mls_tilepool.specs.Pools.{count_of, room_of, tiles_of}
+use Rattle.mls_tilepool.specs.Pools.{tiles_of}
 use Rattle.mls_stitch.specs.Fresh.{replaced}
 use Rattle.mls_stitch.specs.Replacements.{Replaces, TakePlace}
 use Rattle.mls_stitch.specs.Tilings.{HasPlane, block_at}
 use Rattle.mls_stitch.proofs.Laying.{IsOwner-ChangesOnly, Lays-long}
 use Rattle.mls_stitch.proofs.PoolChanges.{ChangesOnly-trans}
-use Rattle.mls_stitch.proofs.ReplacedPlanes.{AwaitStitches-parted, Replaces-instead, has_enough, has_no_room, tiles_there, touched_few}
+use Rattle.mls_stitch.proofs.ReplacedPlanes.{AwaitStitches-parted, Replaces-instead, tiles_there, touched_few}
 use Rattle.mls_stitch.proofs.ShownTiles.{KeysDiffer-tiles_of}
 use Rattle.mls_stitch.proofs.Sides.{IsPlane-AreTiledAs}
 use Rattle.mls_stitch.proofs.plane.Plane.replace.Goals as goal
 
-pub has_room-requires-clause-there : goal.has_room-requires-clause-there
-has_room-requires-clause-there c = rw c.self.view_is (touched_few (tiles_of c.args.pool.now c.args.self.now) c.args.replacement.now.touched.now c.requires.pieces.there c.requires.pieces.once)
-
-pub returns-then-not-has_room-clause-no_room : goal.returns-then-not-has_room-clause-no_room
-returns-then-not-has_room-clause-no_room c =
-    let owner = c.args.self.now in
-    let pool = c.args.pool.now in
-    let ensures' = rw c.self.view_is at c.has_room.ensures.room in (
-      λ _. has_no_room (room_of pool owner) (count_of pool owner + length c.args.replacement.now.fresh.now) (length c.args.replacement.now.touched.now) c.requires.plane.live (λ fits. both_ways c.has_room.result c.if-not-has_room.true (ensures'.1 fits)),
-      λ _. refl,
-    )
+pub returns-then-fresh-unused-clause-no_room : goal.returns-then-fresh-unused-clause-no_room
+returns-then-fresh-unused-clause-no_room c =
+    let room = rw c.self.view_is at c.room.ensures in
+    let count = rw c.self.view_is at c.count.ensures.value in
+    (λ _. rw room (omega (arith, c.if-fresh-unused.true, count)), λ _. refl)
 
 pub list_around-requires-clause-there : goal.list_around-requires-clause-there
 list_around-requires-clause-there c =
@@ -66,12 +60,10 @@ stitch_from-requires-clause-room c =
 
 pub returns-clause-no_room : goal.returns-clause-no_room
 returns-clause-no_room c =
-    let owner = c.args.self.now in
-    let pool = c.args.pool.now in
-    let ensures' = rw c.self.view_is at c.has_room.ensures.room in (
-      λ e. absurd (both_ways _ refl e),
-      λ less. absurd (has_enough (room_of pool owner) (count_of pool owner + length c.args.replacement.now.fresh.now) (length c.args.replacement.now.touched.now) (ensures'.0 c.if-not-has_room.false) less),
-    )
+    let room = rw c.self.view_is at c.room.ensures in
+    let count = rw c.self.view_is at c.count.ensures.value in
+    let within = rw room at (rw c.self.view_is at c.count.ensures.within) in
+    (λ e. absurd (both_ways _ refl e), λ less. absurd (let few = rw room at less in omega (arith, few, c.if-fresh-unused.false, count, within)))
 
 pub returns-clause-replaced : goal.returns-clause-replaced
 returns-clause-replaced c =

@@ -5,10 +5,10 @@ use Rattle.mls_stitch.specs.Pending.{AreInPlace}
 use Rattle.mls_stitch.specs.Tilings.{ChangesOnly}
 use Rattle.mls_stitch.specs.Walks.{IsLaid}
 use Rattle.mls_stitch.proofs.SewnTiles.{ArePartlyBack}
-use Rattle.mls_stitch.proofs.stitching.stitch_back.Given as goal
+use Rattle.mls_stitch.proofs.stitching.stitch_side.Given as goal
 
-abbrev pub invariant-tiles : goal.invariant-tiles
-invariant-tiles l = record {
+abbrev pub invariant-loop-rest : goal.invariant-loop-rest
+invariant-loop-rest l = record {
   bound : l.rest ≤ l.count;
   led : (blocks : ℕ → Option Piece) → AreInPlace (tiles_of l.fn.pool l.owner) blocks → IsLaid blocks l.tile → All (IsLaid blocks) l.fresh
       → ArePartlyBack (tiles_of l.fn.pool l.owner) (tiles_of l.pool l.owner) blocks l.stitch l.fresh l.rest l.count;
@@ -16,5 +16,5 @@ invariant-tiles l = record {
   only : ChangesOnly l.fn.pool l.pool l.owner;
 }
 
-abbrev pub decreases-tiles : goal.decreases-tiles
-decreases-tiles l = l.rest
+abbrev pub decreases-loop-rest : goal.decreases-loop-rest
+decreases-loop-rest l = l.rest
