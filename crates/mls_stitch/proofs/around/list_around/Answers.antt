@@ -25,9 +25,9 @@ gathered c =
           let held = IsHeld blocks touched in
           let added = rw (w.clear.ensures.items, w.deref-in-Some.ensures.value, w.deref-in-Some-2.ensures.value) at w.list_kept.ensures.kept in
           let met = Surround-met blocks keys held bounds w.grow.result w.scan_area.new.list.items c.requires.plane.plane.tiling
-              (λ p one. held_within blocks bounds touched p w.in-Some.ensures.round one) w.grow.ensures.squares w.scan_area.ensures.found in
+          (λ p one. held_within blocks bounds touched p w.in-Some.ensures.round one) w.grow.ensures.squares w.scan_area.ensures.found in
           rw (w.entries-is, added) (Surround-fewer blocks keys held lost _ met (λ p one. lost_held blocks touched c.args.replacement.now.fresh.now p one))
-      | then-not-list_round_lost+in_default w ↦ rw (w.entries-is, w.clear.ensures.items) 
+      | then-not-list_round_lost+in_default w ↦ rw (w.entries-is, w.clear.ensures.items)
           (lost_all blocks keys touched c.args.replacement.now.fresh.now 0 [] (omega (arith, ap length w.in_default.ensures.none)) (lost_none blocks keys touched c.args.replacement.now.fresh.now))
       | else-not-list_round_lost w ↦
           rw w.entries-is (rw c.deref.ensures.value at (c.list_round_lost.ensures.around w.if-not-list_round_lost.false))

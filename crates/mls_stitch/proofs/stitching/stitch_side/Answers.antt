@@ -52,7 +52,7 @@ returns-then-leads_into-2-clause-sewn c = λ blocks place laid listed.
     ]) in
     let within : c.args.count - 1 < length fresh = omega (arith, c.requires.parted.bound, c.if-count-gt0.true) in
     let changes = rw (same_read fresh (c.args.count - 1) last c.index-fresh-count-then-leads_into-2.result within c.index-fresh-count.is c.index-fresh-count-then-leads_into-2.is)
-        at c.set_stitch-then-leads_into-2.ensures.changes in
+    at c.set_stitch-then-leads_into-2.ensures.changes in
     let (was, change, only) = set_there stitch tile.piece part.keeps.place laid changes in
     let (later, onward) = onward_set stitch tile fresh c.args.count listed laid c.requires.sorted c.requires.parted last part.keeps.place c.if-count-gt0.true
     (sym c.leads_into-then-count-gt0.ensures ∙ c.if-leads_into-2.true) change in
