@@ -1,5 +1,5 @@
 -- Tiles are stitched to fresh ones, one by one: each leads to the last of those up to the square beyond it, and the last of these lead back.
-use Rattle.std.proofs.Common.{◌≡◌, ℕ, ◌+◌, ◌-◌, ◌<◌, ◌≤◌, false, true, List, ◌++◌, length, take, drop, get_or, All, Some, Option, sym, ap, subst, subst₂, ◌∙◌, arith, inl, inr}
+use Rattle.std.proofs.Common.{◌≡◌, ℕ, ◌+◌, ◌-◌, ◌<◌, ◌≤◌, false, true, List, ◌++◌, length, take, drop, get_or, All, Some, Option, refl, sym, ap, subst, subst₂, ◌∙◌, arith, inl, inr}
 use Rattle.std.specs.List.{AllWithin}
 use Rattle.std.specs.List.Sorted.{IsPermutation}
 use Rattle.std.proofs.lemmas.Bool.{cases_lt, false≢true}
@@ -76,7 +76,7 @@ module _
         }
 
     -- none before them leads back
-    pub ArePartlyBack-end :
+    ArePartlyBack-end :
         {old new : List (ℕ × Tile)} {rest : ℕ} → rest ≤ count → ArePartlyBack old new blocks stitch entries rest count
         → (0 < rest → (d : LaidTile) × (leads_to (back_of stitch) (get_or entries (rest - 1) d) tile ≡ false))
         → All (λ other. IsLed new blocks (back_of stitch) other tile) entries
@@ -90,6 +90,17 @@ module _
               absurd (false≢true (sym fails ∙ rw (get_or_default entries (rest - 1) e d (omega (arith, parted.bound, bound, before))) at passes))
           | inr after ↦ part.done k e after early
         ]
+
+    -- so the tile is sewn to the fresh ones once its own stitch leads where it is to lead too
+    pub IsSewn-side :
+        {old now new : List (ℕ × Tile)} {rest : ℕ} → rest ≤ count → ArePartlyBack old now blocks stitch entries rest count
+        → (0 < rest → (d : LaidTile) × (leads_to (back_of stitch) (get_or entries (rest - 1) d) tile ≡ false))
+        → KeepStitches now new blocks × All (λ other. IsLed new blocks stitch tile other) entries → IsSewn old new blocks stitch tile entries
+    IsSewn-side bound part none (keeps, onward) = record {
+      keeps = KeepStitches-trans part.keeps keeps;
+      onward = onward;
+      back = λ k d within led. keeps.kept (back_of stitch) (get_or entries k d).id (ArePartlyBack-end bound part none k d within led);
+    }
 
 -- the tiles while sides are sewn: those of the first tiles are
 pub record ArePartlySewn (old new : List (ℕ × Tile)) (blocks : ℕ → Option Piece) (stitch : Stitch) (tiles fresh : List LaidTile) (index : ℕ) : Type 0 where
@@ -190,58 +201,35 @@ all_stitched {old} {new} {blocks} {around} {fresh} waits keeps led = record {
       right tile block there laid;
 }
 
+-- after a round over two sides across from each other, tiles lead to each other by the stitches over both, also where some are set later
+led_both :
+    {old now new : List (ℕ × Tile)} {blocks : ℕ → Option Piece} {around fresh moved : List LaidTile} (stitch : Stitch) → back_of (back_of stitch) ≡ stitch
+    → AreSewnAcross old now blocks stitch around moved → KeepStitches now new blocks → IsPermutation moved fresh
+    → AreAllLed new blocks stitch around fresh × AreAllLed new blocks (back_of stitch) around fresh
+led_both {around = around} stitch turned sewn keeps order =
+    let back = back_of stitch in
+    let same = IsPermutation-refl around in (
+      record {
+        inward = AreLed-later stitch keeps same order sewn.onward.onward;
+        among = AreLed-later stitch keeps order order sewn.among.onward;
+        outward = rw turned at (AreLed-later (back_of back) keeps order same sewn.back.back);
+      },
+      record {
+        inward = AreLed-later back keeps same order sewn.back.onward;
+        among = AreLed-later back keeps order order sewn.among.back;
+        outward = AreLed-later back keeps order same sewn.onward.back;
+      },
+    )
+
 -- two rounds, one over the upper and the lower sides and one over the right and the left ones
-module _
-    {a b c : List (ℕ × Tile)} {blocks : ℕ → Option Piece} {around f g h : List LaidTile} (waits : AwaitStitches a blocks around f) (fg : IsPermutation f g) (gh : IsPermutation g h)
-    (rows : AreSewnAcross a b blocks Rt around g) (columns : AreSewnAcross b c blocks Tr around h)
-  where
-    -- each list is the first one in another order
-    from_g : IsPermutation g f
-    from_g = IsPermutation-sym f g fg
-
-    from_h : IsPermutation h f
-    from_h = IsPermutation-sym f h (IsPermutation-trans f g h fg gh)
-
-    same : IsPermutation around around
-    same = IsPermutation-refl around
-
-    -- and what leads where it is to lead after a round still does in the end
-    after_b : KeepStitches b c blocks
-    after_b = columns.onward.keeps
-
-    at_end : KeepStitches c c blocks
-    at_end = KeepStitches-refl after_b.place
-
-    by_lb : AreAllLed c blocks Lb around f
-    by_lb = record {
-      inward = AreLed-later Lb after_b same from_g rows.back.onward;
-      among = AreLed-later Lb after_b from_g from_g rows.among.back;
-      outward = AreLed-later Lb after_b from_g same rows.onward.back;
-    }
-
-    by_rt : AreAllLed c blocks Rt around f
-    by_rt = record {
-      inward = AreLed-later Rt after_b same from_g rows.onward.onward;
-      among = AreLed-later Rt after_b from_g from_g rows.among.onward;
-      outward = AreLed-later Rt after_b from_g same rows.back.back;
-    }
-
-    by_bl : AreAllLed c blocks Bl around f
-    by_bl = record {
-      inward = AreLed-later Bl at_end same from_h columns.back.onward;
-      among = AreLed-later Bl at_end from_h from_h columns.among.back;
-      outward = AreLed-later Bl at_end from_h same columns.onward.back;
-    }
-
-    by_tr : AreAllLed c blocks Tr around f
-    by_tr = record {
-      inward = AreLed-later Tr at_end same from_h columns.onward.onward;
-      among = AreLed-later Tr at_end from_h from_h columns.among.onward;
-      outward = AreLed-later Tr at_end from_h same columns.back.back;
-    }
-
-    pub AreTiledAs-sewn : AreTiledAs c blocks
-    AreTiledAs-sewn = all_stitched waits (KeepStitches-trans rows.onward.keeps after_b) (each_stitch (λ stitch. AreAllLed c blocks stitch around f) by_lb by_bl by_tr by_rt)
+pub AreTiledAs-sewn :
+    {a b c : List (ℕ × Tile)} {blocks : ℕ → Option Piece} {around f g h : List LaidTile} → AwaitStitches a blocks around f → IsPermutation f g → IsPermutation g h
+    → AreSewnAcross a b blocks Rt around g → AreSewnAcross b c blocks Tr around h → AreTiledAs c blocks
+AreTiledAs-sewn {c = c} {blocks = blocks} {around = around} {f = f} {g = g} {h = h} waits fg gh rows columns =
+    let after = columns.onward.keeps in
+    let (rt, lb) = led_both Rt refl rows after (IsPermutation-sym f g fg) in
+    let (tr, bl) = led_both Tr refl columns (KeepStitches-refl after.place) (IsPermutation-sym f h (IsPermutation-trans f g h fg gh)) in
+    all_stitched waits (KeepStitches-trans rows.onward.keeps after) (each_stitch (λ stitch. AreAllLed c blocks stitch around f) lb bl tr rt)
 
 -- tiles that lie in place, with the listed ones that are to be stitched
 pub record AreReady (tiles : List (ℕ × Tile)) (blocks : ℕ → Option Piece) (around fresh : List LaidTile) : Type 0 where

@@ -169,11 +169,15 @@ in_line e c s e_in c_in s_in line from to =
     (omega arith, omega arith, omega arith)
 
 one_line :
-    (stitch : Stitch) (p e c : Rect) → IsRectangleIn world p → IsRectangleIn world e → IsRectangleIn world c → (start_of stitch e).line ≡ (place_beyond stitch p).line
-    → is_up_to (start_of stitch e) (start_of stitch c) ≡ true → is_up_to (start_of stitch c) (place_beyond stitch p) ≡ true
-    → ((start_of stitch c).line ≡ (place_beyond stitch p).line) × ((start_of stitch e).along ≤ (start_of stitch c).along) × ((start_of stitch c).along ≤ (place_beyond stitch p).along)
-one_line stitch p e c p_in e_in c_in line from to =
-    in_line (start_of stitch e) (start_of stitch c) (place_beyond stitch p) (along_below stitch e e_in).0 (along_below stitch c c_in).0 (along_below stitch p p_in).1 line from to
+    {blocks : ℕ → Option Piece} (stitch : Stitch) (from to last : ℕ) (p e c : Piece) → AreBlocks blocks → blocks from ≡ Some p → blocks to ≡ Some e → blocks last ≡ Some c
+    → (start_of stitch e.rect).line ≡ (place_beyond stitch p.rect).line
+    → is_up_to (start_of stitch e.rect) (start_of stitch c.rect) ≡ true → is_up_to (start_of stitch c.rect) (place_beyond stitch p.rect) ≡ true
+    → ((start_of stitch c.rect).line ≡ (place_beyond stitch p.rect).line) × ((start_of stitch e.rect).along ≤ (start_of stitch c.rect).along)
+    × ((start_of stitch c.rect).along ≤ (place_beyond stitch p.rect).along)
+one_line {blocks} stitch from to last p e c tiling p_laid e_laid c_laid line after up_to =
+    in_line (start_of stitch e.rect) (start_of stitch c.rect) (place_beyond stitch p.rect)
+    (along_below stitch e.rect (legal-AreBlocks blocks to e tiling e_laid)).0 (along_below stitch c.rect (legal-AreBlocks blocks last c tiling c_laid)).0
+    (along_below stitch p.rect (legal-AreBlocks blocks from p tiling p_laid)).1 line after up_to
 
 up_to_along : (p q : Place) → p.line ≡ q.line → p.along ≤ q.along → is_up_to p q ≡ true
 up_to_along p q line along = grind (arith, nat_tests)
@@ -186,12 +190,10 @@ last_is :
     → Has c.rect (beyond stitch p.rect)
 last_is {blocks} stitch from to last p e c tiling p_laid e_laid c_laid held after up_to =
     let (line, along) = begins stitch from to p e tiling p_laid e_laid held in
-    let p_in = legal-AreBlocks blocks from p tiling p_laid in
-    let e_in = legal-AreBlocks blocks to e tiling e_laid in
-    let c_in = legal-AreBlocks blocks last c tiling c_laid in
-    let (c_line, low, high) = one_line stitch p.rect e.rect c.rect p_in e_in c_in line after up_to in
+    let (c_line, low, high) = one_line stitch from to last p e c tiling p_laid e_laid c_laid line after up_to in
     let at = first_square stitch c.rect in
-    let in_e = between stitch p.rect e.rect c.rect p_in e_in c_in held c_line low high in
+    let c_in = legal-AreBlocks blocks last c tiling c_laid in
+    let in_e = between stitch p.rect e.rect c.rect (legal-AreBlocks blocks from p tiling p_laid) (legal-AreBlocks blocks to e tiling e_laid) c_in held c_line low high in
     let in_c = has_first stitch c.rect c_in in
     rw (one_block blocks last to c e at.x at.y tiling c_laid e_laid in_c in_e) held
 
@@ -203,11 +205,9 @@ back_is :
     → Has p.rect (beyond (back_of stitch) c.rect)
 back_is {blocks} stitch from to last p e c tiling p_laid e_laid c_laid held after up_to =
     let (line, along) = begins_back stitch from to p e tiling p_laid e_laid held in
-    let p_in = legal-AreBlocks blocks from p tiling p_laid in
-    let e_in = legal-AreBlocks blocks to e tiling e_laid in
-    let c_in = legal-AreBlocks blocks last c tiling c_laid in
-    let (c_line, low, high) = one_line stitch p.rect e.rect c.rect p_in e_in c_in line after up_to in
-    between_back stitch p.rect e.rect c.rect p_in e_in c_in held (c_line ∙ sym line) low high
+    let (c_line, low, high) = one_line stitch from to last p e c tiling p_laid e_laid c_laid line after up_to in
+    between_back stitch p.rect e.rect c.rect (legal-AreBlocks blocks from p tiling p_laid) (legal-AreBlocks blocks to e tiling e_laid) (legal-AreBlocks blocks last c tiling c_laid) held
+    (c_line ∙ sym line) low high
 
 -- each of the tiles begins before those behind it, or with them
 up_to_later :

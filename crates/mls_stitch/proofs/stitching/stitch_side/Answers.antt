@@ -1,11 +1,10 @@
 -- Each iteration makes one more fresh tile lead back, until one isn't to; then the tile's own stitch is set, or leads to none of them.
 use Rattle.std.proofs.Common.{◌≡◌, ◌-◌, ◌<◌, ℕ, List, false, get_or, length, true, sym, ◌∙◌, arith}
 use Rattle.std.proofs.lemmas.List.{get_or_default}
-use Rattle.mls_stitch.specs.Lookups.{back_of}
 use Rattle.mls_stitch.specs.declared.laid_tile.LaidTile.{LaidTile}
 use Rattle.mls_stitch.proofs.PoolChanges.{ChangesOnly-trans}
-use Rattle.mls_stitch.proofs.SettingStitches.{KeepStitches-trans, set_there}
-use Rattle.mls_stitch.proofs.SewnTiles.{ArePartlyBack-end, ArePartlyBack-set, onward_none, onward_set}
+use Rattle.mls_stitch.proofs.SettingStitches.{KeepStitches-refl, set_there}
+use Rattle.mls_stitch.proofs.SewnTiles.{ArePartlyBack-set, IsSewn-side, onward_none, onward_set}
 use Rattle.mls_stitch.proofs.stitching.stitch_side.Goals.{else-count-gt0-via-then-count-gt0+else-leads_into-2, else-count-gt0-via-else-count-gt0, then-loop-rest-test+else-leads_into, else-loop-rest-test}
 use Rattle.mls_stitch.proofs.stitching.stitch_side.Goals as goal
 
@@ -45,38 +44,32 @@ returns-then-leads_into-2-clause-sewn c = λ blocks place laid listed.
     let fresh = c.args.fresh.now in
     let last = c.index-fresh-count.result in
     let part = c.loop-rest.invariant.led blocks place laid listed in
-    let back = ArePartlyBack-end c.args.stitch c.args.tile.now c.args.fresh.now c.args.count listed laid c.requires.sorted c.requires.parted c.loop-rest.invariant.bound part
+    let within : c.args.count - 1 < length fresh = omega (arith, c.requires.parted.bound, c.if-count-gt0.true) in
+    let changes = rw (same_read fresh (c.args.count - 1) last c.index-fresh-count-then-leads_into-2.result within c.index-fresh-count.is c.index-fresh-count-then-leads_into-2.is)
+        at c.set_stitch-then-leads_into-2.ensures.changes in
+    let (was, change, only) = set_there stitch tile.piece part.keeps.place laid changes in
+    IsSewn-side stitch tile fresh c.args.count listed laid c.requires.sorted c.requires.parted c.loop-rest.invariant.bound part
     (λ some. elim c.loop-rest-test.branch [
       | then-loop-rest-test+else-leads_into w ↦ (w.index-fresh-rest.result, rw c.back-back.ensures at (sym w.leads_into.ensures ∙ w.if-leads_into.false))
       | else-loop-rest-test w ↦ absurd (omega (arith, some, w.loop-rest-test.false))
-    ]) in
-    let within : c.args.count - 1 < length fresh = omega (arith, c.requires.parted.bound, c.if-count-gt0.true) in
-    let changes = rw (same_read fresh (c.args.count - 1) last c.index-fresh-count-then-leads_into-2.result within c.index-fresh-count.is c.index-fresh-count-then-leads_into-2.is)
-    at c.set_stitch-then-leads_into-2.ensures.changes in
-    let (was, change, only) = set_there stitch tile.piece part.keeps.place laid changes in
-    let (later, onward) = onward_set stitch tile fresh c.args.count listed laid c.requires.sorted c.requires.parted last part.keeps.place c.if-count-gt0.true
-    (sym c.leads_into-then-count-gt0.ensures ∙ c.if-leads_into-2.true) change in
-    record {
-      keeps = KeepStitches-trans part.keeps later;
-      onward = onward;
-      back = λ k d inside led. later.kept (back_of stitch) (get_or fresh k d).id (back k d inside led);
-    }
+    ])
+    (onward_set stitch tile fresh c.args.count listed laid c.requires.sorted c.requires.parted last part.keeps.place c.if-count-gt0.true
+    (sym c.leads_into-then-count-gt0.ensures ∙ c.if-leads_into-2.true) change)
 
 pub returns-else-count-gt0-clause-sewn : goal.returns-else-count-gt0-clause-sewn
 returns-else-count-gt0-clause-sewn c = λ blocks place laid listed.
     let part = c.loop-rest.invariant.led blocks place laid listed in
-    let back = ArePartlyBack-end c.args.stitch c.args.tile.now c.args.fresh.now c.args.count listed laid c.requires.sorted c.requires.parted c.loop-rest.invariant.bound part
+    IsSewn-side c.args.stitch c.args.tile.now c.args.fresh.now c.args.count listed laid c.requires.sorted c.requires.parted c.loop-rest.invariant.bound part
     (λ some. elim c.loop-rest-test.branch [
       | then-loop-rest-test+else-leads_into w ↦ (w.index-fresh-rest.result, rw c.back-back.ensures at (sym w.leads_into.ensures ∙ w.if-leads_into.false))
       | else-loop-rest-test w ↦ absurd (omega (arith, some, w.loop-rest-test.false))
-    ]) in
-    record {
-      keeps = part.keeps;
-      onward = onward_none c.args.stitch c.args.tile.now c.args.fresh.now c.args.count listed laid c.requires.sorted c.requires.parted part.keeps.place
+    ])
+    (
+      KeepStitches-refl part.keeps.place,
+      onward_none c.args.stitch c.args.tile.now c.args.fresh.now c.args.count listed laid c.requires.sorted c.requires.parted part.keeps.place
           (λ some. elim c.else-count-gt0.branch [
             | else-count-gt0-via-then-count-gt0+else-leads_into-2 w ↦
                 (w.index-fresh-count.result, sym w.leads_into-then-count-gt0.ensures ∙ w.if-leads_into-2.false)
             | else-count-gt0-via-else-count-gt0 w ↦ absurd (omega (arith, some, w.if-count-gt0.false))
-          ]);
-      back = back;
-    }
+          ]),
+    )
