@@ -149,8 +149,8 @@ legal-joined_x a b legal_a legal_b join = record {
 
 pub legal-joined_y : (a b : Piece) → IsRectangleIn world a.rect → IsRectangleIn world b.rect → JoinInY a b → IsRectangleIn world (joined_y a b).rect
 legal-joined_y a b legal_a legal_b join = record {
-  top_in = legal_b.top_in;
   tall = omega (arith, legal_a.tall, legal_b.tall, join.meet);
+  top_in = legal_b.top_in;
   left_in = legal_a.left_in;
   wide = legal_a.wide;
   right_in = legal_a.right_in;

@@ -1,5 +1,5 @@
 -- Each iteration makes one more fresh tile lead back, until one isn't to; then the tile's own stitch is set, or leads to none of them.
-use Rattle.std.proofs.Common.{◌≡◌, ◌-◌, ◌<◌, ℕ, List, false, get_or, length, true, sym, ◌∙◌, arith}
+use Rattle.std.proofs.Common.{◌≡◌, ◌-◌, ◌<◌, ℕ, List, get_or, length, sym, ◌∙◌, arith}
 use Rattle.std.proofs.lemmas.List.{get_or_default}
 use Rattle.mls_stitch.specs.declared.laid_tile.LaidTile.{LaidTile}
 use Rattle.mls_stitch.proofs.PoolChanges.{ChangesOnly-trans}
@@ -14,7 +14,6 @@ same_read list index one other within is is' = is' ∙ get_or_default list index
 
 pub loop-rest-preserved : goal.loop-rest-preserved
 loop-rest-preserved c =
-    let tile = c.args.tile.now in
     let fresh = c.args.fresh.now in
     let back = c.back-back.result in
     let rest = c.loop-rest.rest in
@@ -27,7 +26,7 @@ loop-rest-preserved c =
       led = λ blocks place laid listed.
           let part = so_far.led blocks place laid listed in
           let (was, change, only) = set_there back (get_or fresh (rest - 1) last).piece part.keeps.place (listed (rest - 1) last within) changes in
-          ArePartlyBack-set c.args.stitch tile fresh c.args.count listed laid c.requires.sorted c.requires.parted back last c.back-back.ensures c.loop-rest-test.true so_far.bound part
+          ArePartlyBack-set c.args.stitch c.args.tile.now fresh c.args.count listed laid c.requires.sorted c.requires.parted back last c.back-back.ensures c.loop-rest-test.true so_far.bound part
           (sym c.leads_into.ensures ∙ c.if-leads_into.true) change;
       same = c.set_stitch.ensures.count ∙ so_far.same;
       only =
@@ -46,7 +45,7 @@ returns-then-leads_into-2-clause-sewn c = λ blocks place laid listed.
     let part = c.loop-rest.invariant.led blocks place laid listed in
     let within : c.args.count - 1 < length fresh = omega (arith, c.requires.parted.bound, c.if-count-gt0.true) in
     let changes = rw (same_read fresh (c.args.count - 1) last c.index-fresh-count-then-leads_into-2.result within c.index-fresh-count.is c.index-fresh-count-then-leads_into-2.is)
-        at c.set_stitch-then-leads_into-2.ensures.changes in
+    at c.set_stitch-then-leads_into-2.ensures.changes in
     let (was, change, only) = set_there stitch tile.piece part.keeps.place laid changes in
     IsSewn-side stitch tile fresh c.args.count listed laid c.requires.sorted c.requires.parted c.loop-rest.invariant.bound part
     (λ some. elim c.loop-rest-test.branch [
@@ -63,8 +62,7 @@ returns-else-count-gt0-clause-sewn c = λ blocks place laid listed.
     (λ some. elim c.loop-rest-test.branch [
       | then-loop-rest-test+else-leads_into w ↦ (w.index-fresh-rest.result, rw c.back-back.ensures at (sym w.leads_into.ensures ∙ w.if-leads_into.false))
       | else-loop-rest-test w ↦ absurd (omega (arith, some, w.loop-rest-test.false))
-    ])
-    (
+    ]) (
       KeepStitches-refl part.keeps.place,
       onward_none c.args.stitch c.args.tile.now c.args.fresh.now c.args.count listed laid c.requires.sorted c.requires.parted part.keeps.place
           (λ some. elim c.else-count-gt0.branch [
