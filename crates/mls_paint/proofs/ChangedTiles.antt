@@ -1,5 +1,5 @@
 -- Touched tiles that are strips again may stay: the other touched tiles give way to the other strips, which have exactly their squares.
-use Rattle.std.proofs.Common.{◌≡◌, ◌≢◌, ◌≤◌, ℕ, ◌+◌, Bool, true, false, not, List, [], ◌∷◌, filter, length, get_or, AllPairs, Any, Contains, Option, Some, IsSome, IsSomeAnd, IsTrue, cond, inl, inr, refl, is_some, sym, ap, ◌∙◌, subst, arith}
+use Rattle.std.proofs.Common.{◌≡◌, ◌≢◌, ◌≤◌, ℕ, ◌+◌, ◌++◌, IsPermutation, Bool, true, false, not, List, [], ◌∷◌, filter, length, get_or, AllPairs, Any, Contains, Option, Some, IsSome, IsSomeAnd, IsTrue, cond, inl, inr, refl, is_some, sym, ap, ◌∙◌, subst, arith}
 use Rattle.std.specs.Bool.{Decides}
 use Rattle.std.specs.Cmp.{IsEquivalence}
 use Rattle.std.proofs.lemmas.Bool.{both_ways, cases_Bool, false_from_ne_true, not-true, not_from_false}
@@ -8,12 +8,14 @@ use Rattle.std.proofs.lemmas.List.{length-map}
 use Rattle.std.proofs.lemmas.List.Elements.{All-contains, All-contains_itself, All-filter, All-map, Contains-get_or, filter_passes}
 use Rattle.std.proofs.lemmas.List.Filters.{length-filter_both}
 use Rattle.std.proofs.lemmas.List.Kept.{AllPairs-filter}
+use Rattle.std.proofs.lemmas.List.Sorted.{IsPermutation-map, length_permutation}
 use Rattle.std.proofs.lemmas.Map.Keys.{IsDistinct-from_apart}
 use Rattle.std.proofs.lemmas.Map.Made.{is_member-Decides, length-le_from_is_member}
 use Rattle.std.proofs.lemmas.Option.{same_Some}
+use Rattle.mls_geom.specs.Locality.{AreCoveredStrips, HaveKinds, laid}
 use Rattle.mls_geom.specs.Rects.{Point, IsRectangleIn, holds}
 use Rattle.mls_geom.specs.Strips.{comes_before}
-use Rattle.mls_geom.specs.World.{world}
+use Rattle.mls_geom.specs.World.{AreLegal, world}
 use Rattle.mls_geom.specs.declared.piece.Piece.{Piece}
 use Rattle.mls_geom.proofs.Ascending.{AllPairs-map, Contains-filter, Contains-map}
 use Rattle.mls_stitch.specs.Pending.{keys_of}
@@ -25,7 +27,7 @@ use Rattle.mls_stitch.proofs.FreshStrips.{AreTouched, pieces_of}
 use Rattle.mls_stitch.proofs.FreshTiles.{AllPairs-either, Contains-from_map, entry-keys_of, keys_of-listed}
 use Rattle.mls_stitch.proofs.PaintedTiles.{same_corner}
 use Rattle.mls_stitch.proofs.Sides.{HoldsAt-block}
-use Rattle.mls_paint.specs.Changes.{CornersDiffer, gone_of, is_among, is_same, put_of, sort_key_of}
+use Rattle.mls_paint.specs.Changes.{CornersDiffer, IsWorkedOut, gone_of, is_among, is_same, put_of, sort_key_of}
 
 -- the test of two pieces finds those that are equal
 pub is_same-Decides : (p q : Piece) → Decides (is_same p q) (p ≡ q)
@@ -231,3 +233,24 @@ TakePlace-changes blocks touched over fresh tiling under whole =
       apart = AllPairs-filter AreDisjoint comes fresh whole.apart;
       same = λ at. (gone_put blocks touched over fresh at tiling under whole, put_gone blocks touched over fresh at under whole);
     }
+
+-- moved in any way, they are worked out
+pub IsWorkedOut-moved :
+    (tiles : List LaidTile) (over strips : List Piece) (gone : List LaidTile) (fresh : List Piece) → HaveKinds (pieces_of tiles ++ over) → AreLegal over
+    → AreCoveredStrips world (laid (pieces_of tiles ++ over)) strips → CornersDiffer (pieces_of tiles) → IsPermutation (gone_of tiles strips) gone
+    → IsPermutation (put_of strips (pieces_of tiles)) fresh → IsWorkedOut tiles over (keys_of gone) fresh
+IsWorkedOut-moved tiles over strips gone fresh kinds legal covered corners away come = record {
+  kinds = kinds;
+  legal = legal;
+  strips = strips;
+  covered = covered;
+  changes = record { named = IsPermutation-map (λ (t : LaidTile). t.id) _ gone away; moved = come };
+  number =
+      omega (
+        arith,
+        length-changes tiles strips corners covered.ordered,
+        length_permutation (gone_of tiles strips) gone away,
+        length_permutation (put_of strips (pieces_of tiles)) fresh come,
+        length-map gone (λ (t : LaidTile). t.id),
+      );
+}

@@ -1,7 +1,6 @@
 pub mod Changes
 pub mod Owners
 pub mod Painting
-pub mod Pairs
 pub mod Planes
 pub mod Plans
 pub mod Scratches

@@ -122,20 +122,6 @@ pub fn commit(pool: &mut Pool, plane: &mut Plane, place: usize, scratch: &mut Sc
     plane.replace(pool, &replacement, lists).unwrap();
 }
 
-/// Fills `pieces` with the rectangles and kinds of the tiles, and after them the pieces that are painted over them.
-fn list_pieces(tiles: &[LaidTile], over: &[Piece], pieces: &mut Vec<Piece>)
-    requires { length tiles.now + length over.now ≤ vec_capacity pieces.old }
-    ensures items { pieces.new.items ≡ map (λ tile. tile.piece) tiles.now ++ over.now }
-    ensures room { vec_capacity pieces.old ≤ vec_capacity pieces.new }
-{
-    pieces.clear();
-    for tile in tiles {
-        pieces.push_reserved(tile.piece);
-    }
-    // Their room is reserved, so the call succeeds.
-    pieces.extend_from_slice(over).unwrap();
-}
-
 /// Finds the strips that take the place of the tiles when pieces are painted over their plane, which has `count` tiles.
 /// Fills `touched` with the tiles' rectangles and kinds.
 ///
@@ -163,7 +149,12 @@ fn find_fresh(
     ensures touched_room { vec_capacity touched.old ≤ vec_capacity touched.new }
     ensures sweep_room { sweep.new.room ≡ sweep.old.room }
 {
-    list_pieces(tiles, over, touched);
+    touched.clear();
+    for tile in tiles {
+        touched.push_reserved(tile.piece);
+    }
+    // Their room is reserved, so the call succeeds.
+    touched.extend_from_slice(over).unwrap();
     let limit = limit as usize;
     let fresh = fresh_strips(touched, limit, sweep)?;
     touched.truncate(tiles.len());

@@ -6,7 +6,8 @@ ghost use Rattle.mls_geom.specs.World.{AreLegal, world};
 ghost use Rattle.mls_paint.specs.Changes.{CornersDiffer, IsWorkedOut};
 ghost use Rattle.mls_paint.specs.Plans.{most_plans};
 
-use crate::changes::list_changes;
+use crate::changes::{SortKey, list_fresh, list_gone, list_names};
+use crate::pairs::pair_up;
 use mls_geom::{Piece, Rect};
 use mls_stitch::{LaidTile, Replacement};
 use mls_tilepool::TileId;
@@ -93,14 +94,12 @@ impl Plan {
         self.tiles.clear();
         self.tiles.extend_from_slice(tiles).unwrap();
         self.searched = searched;
-        list_changes(
-            tiles,
-            strips,
-            touched,
-            &mut self.gone,
-            &mut self.names,
-            &mut self.fresh,
-        );
+        touched.sort_unstable_by_key(|piece| SortKey::of(piece));
+        list_gone(tiles, strips, &mut self.gone);
+        list_fresh(strips, touched, &mut self.fresh);
+        // Tiles go on as strips that have much of them.
+        pair_up(&mut self.gone, &mut self.fresh);
+        list_names(&self.gone, &mut self.names);
     }
 
     /// Returns what gives way to what.

@@ -18,11 +18,11 @@ returns c =
     let parted =
     IsPartitionPoint-from_clause (λ (other : Piece). comes_before other piece) pieces before c.partition_point-before.ensures.partitioned (IsPartitionedBy-ordered pieces piece order)
     (λ other reached f called. search rules) in
-    let lookup = c.get.ensures.lookup in
+    let lookup = c.get-2.ensures.lookup in
     let read =
-    read-Decides pieces before c.get.result c.args.piece (λ some. (Decides-ltb before (length pieces)).0 (sym lookup.0 ∙ some)) lookup.2 lookup.1 in
-    same_from_decides {P = Contains pieces piece} c.eq.result _ (
-      λ same. let (inside, is) = read.0 (sym c.eq.ensures ∙ same) in (before, inside, is),
-      λ there. c.eq.ensures ∙ read.1 (first_is pieces piece before order parted.0 parted.1 there),
+    read-Decides pieces before c.get-2.result c.args.piece (λ some. (Decides-ltb before (length pieces)).0 (sym lookup.0 ∙ some)) lookup.2 lookup.1 in
+    same_from_decides {P = Contains pieces piece} c.eq-2.result _ (
+      λ same. let (inside, is) = read.0 (sym c.eq-2.ensures ∙ same) in (before, inside, is),
+      λ there. c.eq-2.ensures ∙ read.1 (first_is pieces piece before order parted.0 parted.1 there),
     )
     (is_among-Decides pieces piece)

@@ -1,8 +1,0 @@
-use Rattle.std.proofs.Common.{◌≡◌, map, take, vec_capacity}
-use Rattle.mls_paint.proofs.planning.list_pieces.Given as goal
-
-abbrev pub invariant-loop-tile : goal.invariant-loop-tile
-invariant-loop-tile l = record {
-  items : l.pieces.items ≡ map (λ tile. tile.piece) (take l.tile-index l.tiles);
-  room : vec_capacity l.pieces ≡ vec_capacity l.fn.pieces;
-}
