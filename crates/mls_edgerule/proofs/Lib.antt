@@ -1,5 +1,3 @@
 pub mod CompiledLines
-pub mod HaloLemmas
-pub mod KeptRules
 pub mod OnlyOne
 pub mod RuleSetLemmas

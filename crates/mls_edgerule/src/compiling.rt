@@ -55,45 +55,14 @@ fn rule_of(tech: &Tech, rule: Rule) -> Option<EdgeRule>
     }
 }
 
-/// The rule of a `width` line, or `None` if its types don't lie on one plane.
+/// Demands that the types of the set, which lie on one plane, are `distance` wide: beyond an edge into them, and beyond
+/// a corner of such an edge, there are only they.
 #[tactic(auto, unfolding(crate::specs::Compiling::rule_of))]
 fn width(tech: &Tech, set: KindSet, distance: u8) -> Option<EdgeRule>
     ensures { result ≡ spec.rule_of tech.now (Width set distance) }
 {
     let plane = plane_of_set(tech, set)?;
-    Some(width_rule(tech, set, distance, plane))
-}
-
-/// The rule of a `spacing` line with `touching_ok`, or `None` if the types of both lists don't lie on
-/// one plane.
-#[tactic(auto, unfolding(crate::specs::Compiling::rule_of))]
-fn touching_ok(tech: &Tech, from: KindSet, to: KindSet, distance: u8) -> Option<EdgeRule>
-    ensures { result ≡ spec.rule_of tech.now (Spacing from to distance TouchingOk) }
-{
-    let plane = plane_of_set(tech, from)?;
-    if !is_on_plane(tech, to, plane) {
-        return None;
-    }
-    Some(touching_ok_rule(tech, from, to, distance, plane))
-}
-
-/// The rule of a `spacing` line with `touching_illegal`, or `None` if the types of either list don't lie
-/// on one plane.
-#[tactic(auto, unfolding(crate::specs::Compiling::rule_of))]
-fn touching_illegal(tech: &Tech, from: KindSet, to: KindSet, distance: u8) -> Option<EdgeRule>
-    ensures { result ≡ spec.rule_of tech.now (Spacing from to distance TouchingIllegal) }
-{
-    let plane = plane_of_set(tech, from)?;
-    let check_plane = plane_of_set(tech, to)?;
-    Some(touching_illegal_rule(tech, from, to, distance, plane, check_plane))
-}
-
-/// Demands that the types of the set are `distance` wide: beyond an edge into them, and beyond a corner
-/// of such an edge, there are only they.
-fn width_rule(tech: &Tech, set: KindSet, distance: u8, plane: PlaneNumber) -> EdgeRule
-    ensures { result ≡ spec.width_rule tech.now set distance plane }
-{
-    EdgeRule {
+    Some(EdgeRule {
         types1: types_on(tech, plane).difference(set),
         types2: set,
         ok_types: set,
@@ -103,40 +72,35 @@ fn width_rule(tech: &Tech, set: KindSet, distance: u8, plane: PlaneNumber) -> Ed
         directions: Directions::RightAndUp,
         trigger_plane: plane,
         check_plane: plane,
-    }
+    })
 }
 
-/// Demands that types of one plane touch or are `distance` apart: beyond an edge from the first into
-/// neither there are none of the others.
-fn touching_ok_rule(
-    tech: &Tech,
-    from: KindSet,
-    to: KindSet,
-    distance: u8,
-    plane: PlaneNumber,
-) -> EdgeRule
-    ensures { result ≡ spec.touching_ok_rule tech.now from to distance plane }
+/// Demands that the types of two sets, which lie on one plane, touch or are `distance` apart: beyond an edge from the
+/// first into neither there are none of the others.
+#[tactic(auto, unfolding(crate::specs::Compiling::rule_of))]
+fn touching_ok(tech: &Tech, from: KindSet, to: KindSet, distance: u8) -> Option<EdgeRule>
+    ensures { result ≡ spec.rule_of tech.now (Spacing from to distance TouchingOk) }
 {
+    let plane = plane_of_set(tech, from)?;
+    if !is_on_plane(tech, to, plane) {
+        return None;
+    }
     let all = types_on(tech, plane);
     let neither = all.difference(from).difference(to);
-    spacing_rule(from, neither, all.difference(to), distance, plane, plane)
+    Some(spacing_rule(from, neither, all.difference(to), distance, plane, plane))
 }
 
-/// Demands that types are `distance` apart and don't touch: beyond an edge out of the first, which lie on
-/// `plane`, there are none of the others, which lie on `check_plane`.
-fn touching_illegal_rule(
-    tech: &Tech,
-    from: KindSet,
-    to: KindSet,
-    distance: u8,
-    plane: PlaneNumber,
-    check_plane: PlaneNumber,
-) -> EdgeRule
-    ensures { result ≡ spec.touching_illegal_rule tech.now from to distance plane check_plane }
+/// Demands that the types of two sets, which lie on a plane each, are `distance` apart and don't touch: beyond an edge
+/// out of the first there are none of the others.
+#[tactic(auto, unfolding(crate::specs::Compiling::rule_of))]
+fn touching_illegal(tech: &Tech, from: KindSet, to: KindSet, distance: u8) -> Option<EdgeRule>
+    ensures { result ≡ spec.rule_of tech.now (Spacing from to distance TouchingIllegal) }
 {
+    let plane = plane_of_set(tech, from)?;
+    let check_plane = plane_of_set(tech, to)?;
     let outside = types_on(tech, plane).difference(from);
     let allowed = types_on(tech, check_plane).difference(to);
-    spacing_rule(from, outside, allowed, distance, plane, check_plane)
+    Some(spacing_rule(from, outside, allowed, distance, plane, check_plane))
 }
 
 /// Demands that beyond an edge from the first types into others, and beyond a corner of such an edge, only the
@@ -164,27 +128,15 @@ fn spacing_rule(
     }
 }
 
-/// The rule of an `edge` or `edge4way` line, or `None` if no plane or several planes have its edges.
+/// The rule as an `edge` or `edge4way` line states it, without types that its planes don't have, or `None` if no plane or
+/// several planes have its edges.
 fn compiled_edge(tech: &Tech, directions: Directions, edge: Edge) -> Option<EdgeRule>
     ensures { result ≡ spec.compiled_edge tech.now directions edge }
 {
     let plane = trigger_plane(tech, edge.types1, edge.types2)?;
     let check_plane = edge.plane.unwrap_or(plane);
-    Some(edge_line_rule(tech, directions, edge, plane, check_plane))
-}
-
-/// The rule as the line states it, without types that its planes don't have.
-fn edge_line_rule(
-    tech: &Tech,
-    directions: Directions,
-    edge: Edge,
-    plane: PlaneNumber,
-    check_plane: PlaneNumber,
-) -> EdgeRule
-    ensures { result ≡ spec.edge_line_rule tech.now directions edge plane check_plane }
-{
     let all = types_on(tech, plane);
-    EdgeRule {
+    Some(EdgeRule {
         types1: edge.types1.intersection(all),
         types2: edge.types2.intersection(all),
         ok_types: edge.ok_types.intersection(types_on(tech, check_plane)),
@@ -194,5 +146,5 @@ fn edge_line_rule(
         directions,
         trigger_plane: plane,
         check_plane,
-    }
+    })
 }

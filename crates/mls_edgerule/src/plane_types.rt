@@ -38,18 +38,12 @@ pub(crate) fn plane_of_set(tech: &Tech, set: KindSet) -> Option<PlaneNumber>
         .find(|plane| is_on_plane(tech, set, *plane))
 }
 
-/// Whether the set has a type of the plane.
-fn has_member(tech: &Tech, set: KindSet, plane: PlaneNumber) -> bool
-    ensures { result ≡ spec.has_member tech.now set plane }
-{
-    !set.intersection(types_on(tech, plane)).is_empty()
-}
-
 /// Whether the plane can have an edge between the sets: each has a type of it.
 fn has_edges(tech: &Tech, set: KindSet, other: KindSet, plane: PlaneNumber) -> bool
     ensures { result ≡ spec.has_edges tech.now set other plane }
 {
-    has_member(tech, set, plane) && has_member(tech, other, plane)
+    let all = types_on(tech, plane);
+    !set.intersection(all).is_empty() && !other.intersection(all).is_empty()
 }
 
 /// The only plane that can have an edge between the sets, or `None` if there is none or several.

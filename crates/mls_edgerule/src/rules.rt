@@ -99,7 +99,7 @@ impl Rules {
         ensures bounded { result ≤ 256 }
     {
         let mut reach = 1;
-        for rule in self.as_slice() {
+        for rule in &self.rules[..self.len] {
             reach = reach.max(1 + u32::from(rule.distance.max(rule.corner_distance)));
         }
         reach
