@@ -35,13 +35,11 @@ one_kind-alike likeness h kind rect picture legal same x y here =
     same x y here
     ∙ sym (same (like_column likeness rect x) (like_row likeness rect y) (like-holds likeness (grown h rect) rect x y (grown-IsRectangleIn h world rect legal) here))
 
--- and where they have the kind that there is
-pub kind_of-found :
-    (pool : Pool) (owner : ℕ) (likeness : Likeness) (area : Rect) (found : List LaidTile) (kind : Option ℕ) → HasPlane pool owner → IsRectangleIn world area
-    → MeetArea (block_at (tiles_of pool owner)) area found → IfSome kind (λ kind. All (λ tile. tile.piece.kind ≡ kind) found) → is_some kind ≡ true
-    → ShowsAlike likeness 0 area (picture_in pool owner)
-kind_of-found pool owner likeness area found None plane legal are same some = absurd (cc some)
-kind_of-found pool owner likeness area found (Some kind) plane legal are same some =
+-- and where they have one kind
+pub one_kind-found-alike :
+    (pool : Pool) (owner : ℕ) (likeness : Likeness) (area : Rect) (found : List LaidTile) (kind : ℕ) → HasPlane pool owner → IsRectangleIn world area
+    → MeetArea (block_at (tiles_of pool owner)) area found → All (λ tile. tile.piece.kind ≡ kind) found → ShowsAlike likeness 0 area (picture_in pool owner)
+one_kind-found-alike pool owner likeness area found kind plane legal are same =
     one_kind-alike likeness 0 kind area (picture_in pool owner) legal
     (λ x y near. one_kind-found pool owner area found kind plane are same x y (holds-IsWithin area (grown 0 area) x y (grown-none area) near))
 

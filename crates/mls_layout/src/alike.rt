@@ -1,5 +1,5 @@
 //! Whether a layout shows one kind on each plane round a rectangle, or bars.
-ghost use Rattle.std.specs.Prelude.{◌≡◌, ◌≤◌, ℕ, IfSome, IsTrue};
+ghost use Rattle.std.specs.Prelude.{◌≡◌, ◌≤◌, ℕ, IsTrue};
 ghost use Rattle.std.specs.List.{All};
 ghost use Rattle.mls_geom.specs.Rects.{IsRectangleIn, grown};
 ghost use Rattle.mls_geom.specs.World.{world};
@@ -88,20 +88,8 @@ fn planes_are_alike(planes: &[Plane], zone: &AlikeZone, workspace: &mut Workspac
         (picture_in workspace.old.pool owner)) planes.now }
     ensures pool { workspace.new.pool ≡ workspace.old.pool }
 {
-    let Workspace { pool, scratch, .. } = workspace;
-    each_shows_alike(pool, planes, zone, scratch)
-}
-
-/// Returns whether each plane has the zone's likeness. The searches leave in the scratch what they find.
-fn each_shows_alike(pool: &Pool, planes: &[Plane], zone: &AlikeZone, scratch: &mut Scratch) -> bool
-    requires planes { All (λ owner. HasPlane pool.now owner) planes.now }
-    requires room { All (λ owner. HasRoomFor pool.now owner scratch.old) planes.now }
-    requires near { zone.now.halo ≤ 256 }
-    ensures each { IsTrue result → All (λ owner. ShowsAlike zone.now.likeness zone.now.halo zone.now.rect
-        (picture_in pool.now owner)) planes.now }
-    ensures rooms { KeepsRoom scratch.old scratch.new }
-{
     for plane in planes {
+        let Workspace { pool, scratch, .. } = workspace;
         if !shows_alike(pool, plane, zone.likeness, zone.rect, zone.halo, scratch) {
             return false;
         }
@@ -174,32 +162,19 @@ pub(crate) fn are_alike(tiles: &[LaidTile], likeness: Likeness, area: Rect) -> b
 {
     lies_in_world(area);
     match likeness {
-        Likeness::OneKind => kind_of(tiles).is_some(),
+        Likeness::OneKind => match tiles {
+            [tile, ..] => have_kind(tiles, tile.piece.kind),
+            [] => false,
+        },
         Likeness::Columns | Likeness::Rows => all_span(tiles, likeness, area),
     }
-}
-
-/// Returns the kind of the tiles, if they have the same one.
-fn kind_of(tiles: &[LaidTile]) -> Option<Kind>
-    ensures { IfSome result (λ kind. All (λ tile. tile.piece.kind ≡ kind) tiles.now) }
-{
-    let kind = tiles.first()?.piece.kind;
-    if have_kind(tiles, kind) {
-        return Some(kind);
-    }
-    None
 }
 
 /// Returns whether all tiles have the kind.
 pub(crate) fn have_kind(tiles: &[LaidTile], kind: Kind) -> bool
     ensures { IsTrue result → All (λ tile. tile.piece.kind ≡ kind) tiles.now }
 {
-    for tile in tiles {
-        if tile.piece.kind != kind {
-            return false;
-        }
-    }
-    true
+    tiles.iter().all(|tile| tile.piece.kind == kind)
 }
 
 /// Returns whether each of the tiles spans the area.
@@ -207,12 +182,9 @@ fn all_span(tiles: &[LaidTile], likeness: Likeness, area: Rect) -> bool
     ensures { IsTrue result → All (λ tile. Spans likeness tile.piece.rect area) tiles.now }
 {
     let lines = area.area();
-    for tile in tiles {
-        if !spans(tile.piece.rect.area(), likeness, lines) {
-            return false;
-        }
-    }
-    true
+    tiles
+        .iter()
+        .all(|tile| spans(tile.piece.rect.area(), likeness, lines))
 }
 
 /// Returns whether an area spans another one: for columns from its bottom to its top, for rows from its left to its

@@ -123,13 +123,10 @@ fn cell_goes_on_to(cell: &Cell, begin: Rect, onward: Onward, workspace: &mut Wor
 
 /// Returns the line where the first one of the tiles ends.
 fn tiles_go_on_to(tiles: &[LaidTile], onward: Onward) -> u32 {
-    let mut end = u32::MAX;
-    for tile in tiles {
-        if let Some(line) = onward.end(tile.piece.rect.area()) {
-            end = end.min(line);
-        }
-    }
-    end
+    let ends = tiles
+        .iter()
+        .filter_map(|tile| onward.end(tile.piece.rect.area()));
+    ends.min().unwrap_or(u32::MAX)
 }
 
 /// Returns the line moved by this many squares, and the last of all where it is that.

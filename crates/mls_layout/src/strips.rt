@@ -1,5 +1,5 @@
 //! The maximal strips of what a plane shows with the cells that are placed in its layout.
-ghost use Rattle.std.specs.Prelude.{◌≡◌, ◌<◌, ◌≤◌, IfErr, IfOk, OnOk, length};
+ghost use Rattle.std.specs.Prelude.{◌≡◌, ◌<◌, ◌≤◌, IfErr, IfOk, OnOk};
 ghost use Rattle.mls_geom.specs.Pictures.{picture_of};
 ghost use Rattle.mls_geom.specs.StripLists.{strips_of};
 ghost use Rattle.mls_geom.specs.TileCounts.{tile_count};
@@ -100,25 +100,7 @@ fn find_strips(alloc: Global, pieces: &[Piece], limit: usize) -> Result<FlatStri
     ensures too_many { IfErr result (λ fault. IfTooMany fault (limit < tile_count world (picture_of pieces.now))) }
 {
     let mut scratch = Scratch::new(alloc, pieces.len().max(limit))?;
-    list_strips(alloc, pieces, limit, &mut scratch)
-}
-
-/// Returns the maximal strips of what pieces show, by bottom and then left, which are found in the scratch.
-///
-/// Fails if there are more than `limit` strips, or memory runs out.
-fn list_strips(
-    alloc: Global,
-    pieces: &[Piece],
-    limit: usize,
-    scratch: &mut Scratch,
-) -> Result<FlatStrips, Unlisted>
-    requires pieces_fit { length pieces.now ≤ scratch.old.room }
-    requires strips_fit { limit ≤ scratch.old.room }
-    ensures strips { IfOk result (λ flat. flat ≡ strips_of world (picture_of pieces.now)) }
-    ensures within { OnOk result (tile_count world (picture_of pieces.now) ≤ limit) }
-    ensures too_many { IfErr result (λ fault. IfTooMany fault (limit < tile_count world (picture_of pieces.now))) }
-{
-    strips(pieces, &[], limit, scratch)?;
+    strips(pieces, &[], limit, &mut scratch)?;
     Ok(FlatStrips {
         strips: Vec::from_slice(alloc, scratch.strips())?,
     })

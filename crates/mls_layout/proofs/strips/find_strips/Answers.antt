@@ -2,7 +2,7 @@ use Rattle.std.proofs.Common.{◌∙◌}
 use Rattle.mls_geom.specs.Pictures.{picture_of}
 use Rattle.mls_geom.specs.World.{world}
 use Rattle.mls_geom.proofs.StripLists.{strips_are_listed}
-use Rattle.mls_layout.proofs.strips.list_strips.Goals as goal
+use Rattle.mls_layout.proofs.strips.find_strips.Goals as goal
 
 pub returns-clause-strips : goal.returns-clause-strips
 returns-clause-strips c =
