@@ -1,9 +1,9 @@
 -- The first word of a line, and the words after it.
-use Rattle.std.proofs.Common.{◌≡◌, ◌≢◌, ℕ, true, false, List, [], ◌∷◌, length, take, drop, ap, refl, ⊎_elim}
+use Rattle.std.proofs.Common.{◌≡◌, ◌≢◌, ℕ, true, false, List, [], ◌∷◌, length, take, drop, sym, ap, ◌∙◌, refl, ⊎_elim}
 use Rattle.std.specs.List.{prefix_len, position_or_len}
 use Rattle.std.proofs.Math.Numerals.{one-add}
 use Rattle.std.proofs.lemmas.Bool.{cond_both, cases_Bool, not-true, not-false}
-use Rattle.std.proofs.lemmas.List.{take_rest}
+use Rattle.std.proofs.lemmas.List.{nil_from_length, take_rest}
 use Rattle.std.proofs.lemmas.List.Sums.{prefix_len-le-length}
 use Rattle.mls_text.specs.Words.{onto_first, is_blank, begins_with_word, words_of}
 
@@ -38,6 +38,13 @@ words_of-first (b ∷ bytes) begins =
     (λ ends. rw (position_or_len-no_word bytes ends) (rw ends refl))
     (cases_Bool (begins_with_word bytes)))
 
-pub ruleset blanks = (take_rest, words_of-drop_blanks, begins_with_word-drop_blanks, prefix_len-le-length)
+-- the words of a line that has none, and of one that has
+pub words_of-blank : (line : List ℕ) → length (drop (prefix_len is_blank line) line) ≡ 0 → words_of line ≡ []
+words_of-blank line none = sym (words_of-drop_blanks line) ∙ ap words_of (nil_from_length _ none)
 
-pub ruleset first = (words_of-first, prefix_len-le-length)
+pub words_of-begun :
+    (line : List ℕ) → let begun = drop (prefix_len is_blank line) line in
+    length begun ≢ 0 → words_of line ≡ take (position_or_len is_blank begun) begun ∷ words_of (drop (position_or_len is_blank begun) begun)
+words_of-begun line more = sym (words_of-drop_blanks line) ∙ words_of-first (drop (prefix_len is_blank line) line) (begins_with_word-drop_blanks line more)
+
+pub ruleset first = (take_rest, words_of-blank, words_of-begun, prefix_len-le-length)

@@ -1,5 +1,5 @@
 //! Numbers as decimal digits.
-ghost use Rattle.std.specs.Prelude.{◌≡◌, ◌≤◌, ◌^◌, IsTrue, min};
+ghost use Rattle.std.specs.Prelude.{◌≡◌, IsTrue};
 ghost use Rattle.std.specs.List.{list_all};
 ghost use Rattle.mls_text.specs.Digits as spec;
 
@@ -25,23 +25,14 @@ pub fn value_at_most(digits: &[u8], limit: u64) -> Option<u64>
     requires { IsTrue (list_all spec.is_digit digits.now) }
     ensures { result ≡ spec.value_at_most limit digits.now }
 {
-    let value = capped_value(digits, u128::from(limit) + 1);
-    if value <= u128::from(limit) {
+    let above = u128::from(limit) + 1;
+    let mut value = 0;
+    for digit in digits {
+        value = (10 * value + u128::from(*digit - b'0')).min(above);
+    }
+    if value < above {
         Some(value as u64)
     } else {
         None
     }
-}
-
-/// Returns the value of `digits`, or `most` if it is larger.
-fn capped_value(digits: &[u8], most: u128) -> u128
-    requires digits { IsTrue (list_all spec.is_digit digits.now) }
-    requires fits { most ≤ 2 ^ 64 }
-    ensures { result ≡ min (spec.value_of digits.now) most }
-{
-    let mut value = 0;
-    for digit in digits {
-        value = (10 * value + u128::from(*digit - b'0')).min(most);
-    }
-    value
 }

@@ -1,5 +1,5 @@
 //! The words of a line.
-ghost use Rattle.std.specs.Prelude.{◌≡◌, ◌≢◌, true, [], ◌∷◌, length, MatchOption};
+ghost use Rattle.std.specs.Prelude.{◌≡◌};
 ghost use Rattle.std.specs.List.{position_or_len, prefix_len};
 ghost use Rattle.std.specs.Iterator.{YieldsFirstBy, item_count};
 ghost use Rattle.mls_text.specs.Words as spec;
@@ -32,6 +32,7 @@ impl<'a> Words<'a> {
     }
 }
 
+#[tactic(auto, using(crate::proofs::WordLemmas::first))]
 impl<'a> Iterator for Words<'a> {
     type Item = &'a [u8];
 
@@ -40,32 +41,14 @@ impl<'a> Iterator for Words<'a> {
     ghost remaining = { item_count (λ words. words) };
 
     fn next(&mut self) -> Option<&'a [u8]> {
-        let (word, rest) = first_word(self.rest)?;
+        let begun = &self.rest[blanks_len(self.rest)..];
+        if begun.is_empty() {
+            return None;
+        }
+        let (word, rest) = begun.split_at(word_len(begun));
         self.rest = rest;
         Some(word)
     }
-}
-
-/// Splits a line after its first word.
-#[tactic(auto, using(crate::proofs::WordLemmas::first))]
-fn first_word(line: &[u8]) -> Option<(&[u8], &[u8])>
-    ensures { MatchOption result (spec.words_of line.now ≡ [])
-        (λ parts. spec.words_of line.now ≡ parts.0.now ∷ spec.words_of parts.1.now) }
-{
-    let begun = after_blanks(line);
-    if begun.is_empty() {
-        return None;
-    }
-    Some(begun.split_at(word_len(begun)))
-}
-
-/// Returns the line from its first word on.
-#[tactic(auto, using(crate::proofs::WordLemmas::blanks))]
-fn after_blanks(line: &[u8]) -> &[u8]
-    ensures same { spec.words_of result.now ≡ spec.words_of line.now }
-    ensures begins { length result.now ≢ 0 → spec.begins_with_word result.now ≡ true }
-{
-    &line[blanks_len(line)..]
 }
 
 /// Returns the number of blanks that `bytes` begins with.
