@@ -1,5 +1,4 @@
 pub mod DrcWordLemmas
-pub mod EdgeLines
 pub mod JoinedLines
 pub mod LastBytes
 pub mod Limits

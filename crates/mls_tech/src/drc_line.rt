@@ -1,7 +1,7 @@
 //! The lines of the section `drc`.
-ghost use Rattle.std.specs.Prelude.{◌≡◌, ◌≤◌, All, IfOk, Some};
+ghost use Rattle.std.specs.Prelude.{◌≡◌, ◌≤◌, All};
 ghost use Rattle.mls_tech.specs.DrcLines as spec;
-ghost use Rattle.mls_tech.specs.Inner.DrcViews.{edge_by_threes, edge_rule, lists_and_distance, said, word_bytes};
+ghost use Rattle.mls_tech.specs.Inner.DrcViews.{edge_rule, said, word_bytes};
 ghost use Rattle.mls_tech.specs.Inner.Gives.{Gives, GivesUnlessMemory};
 ghost use Rattle.mls_tech.specs.Inner.ListReaders as lists;
 ghost use Rattle.mls_tech.specs.Readings.{scope_of};
@@ -10,7 +10,7 @@ use crate::drc_words::drc_words;
 use crate::list_reader::{ListReader, openings};
 use crate::number::number_in;
 use crate::{Adjacency, Edge, Rule, Tech, TechFaultKind};
-use mls_kinds::{KindSet, PlaneNumber};
+use mls_kinds::PlaneNumber;
 use std::alloc::Global;
 
 /// The largest distance that a rule may have, in squares.
@@ -34,20 +34,9 @@ pub(crate) fn drc_line<'a>(
 ) -> Result<DrcLine<'a>, TechFaultKind>
     ensures { GivesUnlessMemory said result (spec.drc_line (scope_of tech.now) line.now) }
 {
-    match drc_words(alloc, line)? {
-        Some(words) => words_line(alloc, tech, &words),
-        None => Err(TechFaultKind::BadForm),
-    }
-}
-
-/// Reads the words of a line.
-fn words_line<'a>(
-    alloc: Global,
-    tech: &Tech,
-    words: &[&'a [u8]],
-) -> Result<DrcLine<'a>, TechFaultKind>
-    ensures { GivesUnlessMemory said result (spec.words_line (scope_of tech.now) (Some (word_bytes words.now))) }
-{
+    let Some(words) = drc_words(alloc, line)? else {
+        return Err(TechFaultKind::BadForm);
+    };
     let Some((keyword, words)) = words.split_first() else {
         return Ok(DrcLine::Skips(&[]));
     };
@@ -152,7 +141,7 @@ impl<'t> RuleReader<'t> {
     }
 
     /// Reads the words after `edge` or `edge4way`.
-    #[tactic(auto, using(crate::proofs::EdgeLines::by_threes), unfolding(crate::specs::DrcLines::edge_line))]
+    #[tactic(auto, unfolding(crate::specs::DrcLines::edge_line))]
     fn edge<'a>(
         &mut self,
         directions: Directions,
@@ -169,11 +158,11 @@ impl<'t> RuleReader<'t> {
     }
 
     /// Reads the words of an edge, and returns it with why it is there.
-    #[tactic(auto, unfolding(crate::specs::Inner::DrcViews::edge_by_threes))]
+    #[tactic(auto, unfolding(crate::specs::DrcLines::edge_words))]
     fn edge_words<'a>(&mut self, words: &[&'a [u8]]) -> Result<(Edge, &'a [u8]), TechFaultKind>
         requires fits { All (λ word. lists.openings word.now ≤ self.old.lists.room) words.now }
         ensures { Gives (λ edge. (edge.0, edge.1.now)) result
-            (edge_by_threes (scope_of self.old.tech.now) (word_bytes words.now)) }
+            (spec.edge_words (scope_of self.old.tech.now) (word_bytes words.now)) }
     {
         let [
             types1,
@@ -191,54 +180,17 @@ impl<'t> RuleReader<'t> {
         if more.len() > 1 {
             return Err(TechFaultKind::BadForm);
         }
-        let (types1, types2, distance) = lists_and_distance(
-            &mut self.lists,
-            self.tech,
-            types1,
-            types2,
-            1,
-            distance,
-        )?;
-        let (ok_types, corner_types, corner_distance) = lists_and_distance(
-            &mut self.lists,
-            self.tech,
-            ok_types,
-            corner_types,
-            0,
-            corner_distance,
-        )?;
         let edge = Edge {
-            types1,
-            types2,
-            distance,
-            ok_types,
-            corner_types,
-            corner_distance,
+            types1: self.lists.read(self.tech, types1)?,
+            types2: self.lists.read(self.tech, types2)?,
+            distance: number_in(1, DISTANCE_LIMIT, distance)?,
+            ok_types: self.lists.read(self.tech, ok_types)?,
+            corner_types: self.lists.read(self.tech, corner_types)?,
+            corner_distance: number_in(0, DISTANCE_LIMIT, corner_distance)?,
             plane: last_plane(self.tech, more)?,
         };
         Ok((edge, why))
     }
-}
-
-/// Reads two type lists, and a distance of at least `least`.
-#[tactic(auto, unfolding(crate::specs::Inner::DrcViews::lists_and_distance))]
-fn lists_and_distance(
-    reader: &mut ListReader,
-    tech: &Tech,
-    types1: &[u8],
-    types2: &[u8],
-    least: u8,
-    distance: &[u8],
-) -> Result<(KindSet, KindSet, u8), TechFaultKind>
-    requires fits1 { lists.openings types1.now ≤ reader.old.room }
-    requires fits2 { lists.openings types2.now ≤ reader.old.room }
-    ensures value { result ≡ lists_and_distance (scope_of tech.now) types1.now types2.now least distance.now }
-    ensures room { IfOk result (λ _. reader.new.room ≡ reader.old.room) }
-{
-    let types1 = reader.read(tech, types1)?;
-    let types2 = reader.read(tech, types2)?;
-    let distance = number_in(least, DISTANCE_LIMIT, distance)?;
-    Ok((types1, types2, distance))
 }
 
 /// Returns the adjacency that a word names.

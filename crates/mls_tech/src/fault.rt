@@ -3,11 +3,11 @@ ghost use Rattle.std.specs.Prelude.{◌≡◌};
 ghost use Rattle.mls_tech.specs.declared.fault.TechFaultKind.TheVariants.{Memory};
 
 use std::alloc::{AllocError, AllocFailed};
-use std::fmt;
 use thiserror::Error;
 
 /// What is wrong with a line of a technology file.
 #[derive(Clone, Copy, Debug, PartialEq, Eq, Error)]
+#[error("{}", self.text())]
 pub enum TechFaultKind {
     NotUtf8 = 1,
     NoEnd,
@@ -47,12 +47,6 @@ impl TechFaultKind {
             TechFaultKind::Limit => "limit",
             TechFaultKind::Memory => "memory",
         }
-    }
-}
-
-impl fmt::Display for TechFaultKind {
-    fn fmt<W: fmt::Write>(&self, f: &mut fmt::Formatter<W>) -> fmt::Result {
-        f.write_str(self.text())
     }
 }
 

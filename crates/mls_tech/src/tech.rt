@@ -143,6 +143,7 @@ impl Tech {
         ensures limit { result ≤ 63 }
         ensures named { HasNames self.now.types self.now.type_planes }
         ensures within { All (λ entry. entry.1 ≤ length self.now.type_planes) self.now.types }
+        ensures unbroken { IfSome self.now.name IsUnbroken }
     {
         self.type_planes.len()
     }
