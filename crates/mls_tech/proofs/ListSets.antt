@@ -1,7 +1,7 @@
 -- The set that a list means, and its leftmost name that isn't known, each by itself.
-use Rattle.std.proofs.Common.{◌≡◌, ℕ, ◌^◌, ◌<◌, ◌==◌, not, ◌||◌, ◌&&◌, Option, Some, None, Result, Ok, Err, List, refl, sym, ap, ◌∙◌}
+use Rattle.std.proofs.Common.{◌≡◌, ℕ, ◌^◌, ◌<◌, ◌==◌, not, ◌||◌, ◌&&◌, Option, Some, None, Result, Ok, Err, refl, sym, ap, ◌∙◌}
 use Rattle.std.proofs.lemmas.Nat.{pow_pos}
-use Rattle.mls_tech.specs.TypeLists.{Scope, TypeTest, TypeList, Nothing, Named, AllBut, Both, OnPlane, or_fault, ◌>>=◌, types_of, types_spelled, bits_in}
+use Rattle.mls_tech.specs.TypeLists.{Scope, TypeTest, TypeList, Nothing, Named, AllBut, Both, OnPlane, or_fault, ◌>>=◌, types_of}
 use Rattle.mls_kinds.specs.KindSets.{set_of}
 use Rattle.mls_kinds.specs.KindSets.{union, intersection, difference}
 use Rattle.mls_tech.specs.Inner.ListReaders.{first_fault, fault_unless, named_set, plane_set, unless_unknown}
@@ -96,8 +96,3 @@ meant (Err fault) (Some unknown) bits h = ap Err (sym h)
 
 pub types_of-is : (scope : Scope) (list : TypeList) → (types_of scope list >>= λ set. Ok (set_of set)) ≡ unless_unknown (unknown_in scope list) (set_in scope list)
 types_of-is scope list = meant (types_of scope list) (unknown_in scope list) (set_in scope list) (types_of-means scope list)
-
--- what goes on with the number of a word's set
-pub bits_in-then : {A : Type 0} (scope : Scope) (word : List ℕ) (f : ℕ → Result A TechFaultKind) → (types_spelled scope word >>= λ set. f (set_of set)) ≡ (bits_in scope word >>= f)
-unfolding bits_in
-bits_in-then scope word f = elim (types_spelled scope word) as (λ told. (told >>= λ set. f (set_of set)) ≡ ((told >>= λ set. Ok (set_of set)) >>= f)) [ Ok set ↦ refl | Err fault ↦ refl ]

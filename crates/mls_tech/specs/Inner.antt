@@ -1,5 +1,4 @@
 -- The words of private contracts: how the reader goes about what the other modules define. A caller needs none of them.
-pub mod Additions
 pub mod DrcViews
 pub mod Gives
 pub mod ListReaders

@@ -25,13 +25,12 @@ pub(crate) enum DrcLine<'a> {
     Skips(&'a [u8]),
 }
 
+/// What a line is, or its first fault.
+type Read<'a> = Result<DrcLine<'a>, TechFaultKind>;
+
 /// Reads a line, or returns its first fault.
 #[tactic(auto, unfolding(crate::specs::DrcLines::drc_line))]
-pub(crate) fn drc_line<'a>(
-    alloc: Global,
-    tech: &Tech,
-    line: &'a [u8],
-) -> Result<DrcLine<'a>, TechFaultKind>
+pub(crate) fn drc_line<'a>(alloc: Global, tech: &Tech, line: &'a [u8]) -> Read<'a>
     ensures { GivesUnlessMemory said result (spec.drc_line (scope_of tech.now) line.now) }
 {
     let Some(words) = drc_words(alloc, line)? else {
@@ -85,11 +84,7 @@ struct RuleReader<'t> {
 impl<'t> RuleReader<'t> {
     /// Reads a keyword and the words after it.
     #[tactic(auto, unfolding(crate::specs::DrcLines::keyword_line))]
-    fn line<'a>(
-        &mut self,
-        keyword: &'a [u8],
-        words: &[&'a [u8]],
-    ) -> Result<DrcLine<'a>, TechFaultKind>
+    fn line<'a>(&mut self, keyword: &'a [u8], words: &[&'a [u8]]) -> Read<'a>
         requires fits { All (λ word. lists.openings word.now ≤ self.old.lists.room) words.now }
         ensures { Gives said result
             (spec.keyword_line (scope_of self.old.tech.now) keyword.now (word_bytes words.now)) }
@@ -108,7 +103,7 @@ impl<'t> RuleReader<'t> {
     }
 
     /// Reads the words after `width`.
-    fn width<'a>(&mut self, words: &[&'a [u8]]) -> Result<DrcLine<'a>, TechFaultKind>
+    fn width<'a>(&mut self, words: &[&'a [u8]]) -> Read<'a>
         requires fits { All (λ word. lists.openings word.now ≤ self.old.lists.room) words.now }
         ensures { Gives said result (spec.width_line (scope_of self.old.tech.now) (word_bytes words.now)) }
     {
@@ -121,7 +116,7 @@ impl<'t> RuleReader<'t> {
     }
 
     /// Reads the words after `spacing`.
-    fn spacing<'a>(&mut self, words: &[&'a [u8]]) -> Result<DrcLine<'a>, TechFaultKind>
+    fn spacing<'a>(&mut self, words: &[&'a [u8]]) -> Read<'a>
         requires fits { All (λ word. lists.openings word.now ≤ self.old.lists.room) words.now }
         ensures { Gives said result (spec.spacing_line (scope_of self.old.tech.now) (word_bytes words.now)) }
     {
@@ -142,11 +137,7 @@ impl<'t> RuleReader<'t> {
 
     /// Reads the words after `edge` or `edge4way`.
     #[tactic(auto, unfolding(crate::specs::DrcLines::edge_line))]
-    fn edge<'a>(
-        &mut self,
-        directions: Directions,
-        words: &[&'a [u8]],
-    ) -> Result<DrcLine<'a>, TechFaultKind>
+    fn edge<'a>(&mut self, directions: Directions, words: &[&'a [u8]]) -> Read<'a>
         requires fits { All (λ word. lists.openings word.now ≤ self.old.lists.room) words.now }
         ensures { Gives said result
             (spec.edge_line (edge_rule directions) (scope_of self.old.tech.now) (word_bytes words.now)) }

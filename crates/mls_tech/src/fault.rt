@@ -21,6 +21,9 @@ pub enum TechFaultKind {
     Memory,
 }
 
+/// Whether what stands in a line was taken: it may have a fault.
+pub(crate) type Taken = Result<(), TechFaultKind>;
+
 impl TechFaultKind {
     ghost use Rattle.mls_tech.specs.Faults.{fault_number, fault_text};
 

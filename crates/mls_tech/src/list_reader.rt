@@ -4,6 +4,7 @@ ghost use Rattle.std.specs.Option.{ForSome, is_some};
 ghost use Rattle.mls_tech.specs.Inner.ListReaders as spec;
 ghost use Rattle.mls_tech.specs.Readings.{scope_of};
 
+use crate::fault::Taken;
 use crate::name::is_name;
 use crate::token::{Token, Tokens};
 use crate::{Tech, TechFaultKind};
@@ -135,7 +136,7 @@ impl ListReader {
 
     /// Reads the next token. After a fault the rest of the list can't be read.
     #[tactic(auto, unfolding(crate::specs::Inner::ListReaders::step))]
-    fn take(&mut self, tech: &Tech, token: Token<'_>) -> Result<(), TechFaultKind>
+    fn take(&mut self, tech: &Tech, token: Token<'_>) -> Taken
         requires { HasRoom self.old (token_of token) }
         ensures { Advances (spec.step (scope_of tech.now) self.old (token_of token.entry)) result self.new }
     {
@@ -166,12 +167,7 @@ impl ListReader {
     }
 
     /// Reads a token of a term.
-    fn take_term(
-        &mut self,
-        tech: &Tech,
-        tildes: Tildes,
-        token: Token<'_>,
-    ) -> Result<(), TechFaultKind>
+    fn take_term(&mut self, tech: &Tech, tildes: Tildes, token: Token<'_>) -> Taken
         requires { HasRoom self.old (token_of token) }
         ensures { Advances (spec.term_step (scope_of tech.now) self.old tildes (token_of token.entry)) result self.new }
     {
@@ -204,7 +200,7 @@ impl ListReader {
     }
 
     /// Reads a term of one word.
-    fn take_word(&mut self, tech: &Tech, tildes: Tildes, word: &[u8]) -> Result<(), TechFaultKind>
+    fn take_word(&mut self, tech: &Tech, tildes: Tildes, word: &[u8]) -> Taken
         ensures { Advances (spec.word_step (scope_of tech.now) self.old tildes word.now) result self.new }
     {
         if word == b"0".as_slice() {
@@ -220,12 +216,7 @@ impl ListReader {
     }
 
     /// Reads a token that follows a term with this set.
-    fn take_after_term(
-        &mut self,
-        tech: &Tech,
-        set: KindSet,
-        token: Token<'_>,
-    ) -> Result<(), TechFaultKind>
+    fn take_after_term(&mut self, tech: &Tech, set: KindSet, token: Token<'_>) -> Taken
         ensures { Advances (spec.after_step (scope_of tech.now) self.old set (token_of token.entry)) result self.new }
     {
         if let Token::Slash = token {
@@ -237,12 +228,7 @@ impl ListReader {
     }
 
     /// Reads the plane of a term with this set.
-    fn take_plane(
-        &mut self,
-        tech: &Tech,
-        set: KindSet,
-        token: Token<'_>,
-    ) -> Result<(), TechFaultKind>
+    fn take_plane(&mut self, tech: &Tech, set: KindSet, token: Token<'_>) -> Taken
         ensures { Advances (spec.plane_step (scope_of tech.now) self.old set (token_of token.entry)) result self.new }
     {
         let Token::Word(word) = token else {
@@ -258,7 +244,7 @@ impl ListReader {
     }
 
     /// Reads a token that follows an item.
-    fn take_after_item(&mut self, tech: &Tech, token: Token<'_>) -> Result<(), TechFaultKind>
+    fn take_after_item(&mut self, tech: &Tech, token: Token<'_>) -> Taken
         ensures { Advances (spec.item_step (scope_of tech.now) self.old (token_of token.entry)) result self.new }
     {
         match token {
@@ -272,7 +258,7 @@ impl ListReader {
     }
 
     /// Ends a list in parentheses.
-    fn close(&mut self, tech: &Tech) -> Result<(), TechFaultKind>
+    fn close(&mut self, tech: &Tech) -> Taken
         ensures { Advances (spec.closing_step (scope_of tech.now) self.old self.old.outer) result self.new }
     {
         let Some(list) = self.outer.pop() else {

@@ -6,6 +6,7 @@ ghost use Rattle.mls_tech.specs.Readings as spec;
 ghost use Rattle.mls_text.specs.Fields.{fields_of};
 
 use crate::TechFaultKind;
+use crate::fault::Taken;
 use crate::name_kind::NameKind;
 use indexmap::IndexMap;
 use mls_text::Fields;
@@ -55,13 +56,7 @@ impl NameTable {
 
     /// Adds the names between the commas of a list, each as a name of the number. At a fault, those
     /// before it have been added.
-    pub fn add_names(
-        &mut self,
-        alloc: Global,
-        kind: NameKind,
-        number: u8,
-        list: &[u8],
-    ) -> Result<(), TechFaultKind>
+    pub fn add_names(&mut self, alloc: Global, kind: NameKind, number: u8, list: &[u8]) -> Taken
         ensures { GivesUnlessMemory (λ _. self.new) result
             (spec.add_names (spelling_of kind) number self.old (fields_of list.now)) }
     {

@@ -1,8 +1,7 @@
 -- The last byte of a line, and a carriage return there that is dropped.
-use Rattle.std.proofs.Common.{◌≡◌, ◌≢◌, ◌<◌, ◌≤◌, ◌+◌, ◌-◌, ◌==◌, ℕ, if◌then◌else◌, true, false, List, [], ◌∷◌, ◌++◌, length, take, get_or, ap, refl, sym, ◌∙◌, arith}
+use Rattle.std.proofs.Common.{◌≡◌, ◌<◌, ◌≤◌, ◌+◌, ◌-◌, ◌==◌, ℕ, if◌then◌else◌, true, false, List, [], ◌∷◌, ◌++◌, length, take, get_or, ap, refl, ◌∙◌, arith}
 use Rattle.std.proofs.lemmas.List.{take_more, take_all}
 use Rattle.std.proofs.lemmas.Bool.{ne_eqb}
-use Rattle.std.proofs.lemmas.Bool.Decides.{nat_tests}
 use Rattle.mls_text.specs.Lines.{without_return}
 
 pub split_last : (bytes : List ℕ) → 0 < length bytes → bytes ≡ take (length bytes - 1) bytes ++ get_or bytes (length bytes - 1) 0 ∷ []
@@ -34,22 +33,6 @@ without_return-other [] other = refl
 without_return-other (b ∷ line) other = without_return-ends (b ∷ line) (omega arith) (ne_eqb _ 13 (other (omega arith)))
 
 pub ruleset returns = (without_return-return, without_return-other)
-
--- ---- of the first bytes of a buffer
-without_return-take : (bytes : List ℕ) (len : ℕ) → 0 < len → len ≤ length bytes
-    → without_return (take len bytes) ≡ (if get_or bytes (len - 1) 0 == 13 then take (len - 1) bytes else take len bytes)
-without_return-take bytes len some within =
-    let last : len ≡ len - 1 + 1 = omega arith in
-    let split = ap (λ n. take n bytes) last ∙ take_more bytes (len - 1) 0 (omega arith) in
-    ap without_return split ∙ without_return-push (take (len - 1) bytes) (get_or bytes (len - 1) 0)
-    ∙ ap (λ l. if get_or bytes (len - 1) 0 == 13 then take (len - 1) bytes else l) (sym split)
-
--- the last of the first len bytes is a carriage return, or is none
-pub drops_return : (bytes : List ℕ) (len : ℕ) → 0 < len → len ≤ length bytes → get_or bytes (len - 1) 0 ≡ 13 → without_return (take len bytes) ≡ take (len - 1) bytes
-drops_return bytes len some within last = let dropped = without_return-take bytes len some within in grind (arith, nat_tests)
-
-pub keeps_last : (bytes : List ℕ) (len : ℕ) → 0 < len → len ≤ length bytes → get_or bytes (len - 1) 0 ≢ 13 → without_return (take len bytes) ≡ take len bytes
-keeps_last bytes len some within last = let kept = without_return-take bytes len some within in grind (arith, nat_tests)
 
 -- a carriage return is at most one byte
 pub length-without_return : (line : List ℕ) → (length (without_return line) ≤ length line) × (length line ≤ length (without_return line) + 1)

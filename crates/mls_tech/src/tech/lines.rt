@@ -1,6 +1,5 @@
 //! What the lines of each section add to a technology. A technology with a fault isn't read further.
-ghost use Rattle.std.specs.Prelude.{◌≡◌, ◌<◌, Ok, OnOk};
-ghost use Rattle.mls_tech.specs.Inner.Additions.{with_plane, with_type};
+ghost use Rattle.std.specs.Prelude.{◌≡◌, Ok, OnOk};
 ghost use Rattle.mls_tech.specs.Inner.Gives.{GivesUnlessMemory};
 ghost use Rattle.mls_tech.specs.Readings as spec;
 ghost use Rattle.mls_text.specs.Lines.{IsUnbroken};
@@ -9,12 +8,12 @@ ghost use Rattle.mls_tech.specs.declared.section.Section.TheVariants.{Drc};
 
 use super::Tech;
 use crate::drc_line::{DrcLine, drc_line};
+use crate::fault::Taken;
 use crate::file_lines::{FileLines, is_end};
 use crate::name_kind::NameKind;
 use crate::name_table::NameTable;
 use crate::section::Section;
 use crate::{Rule, RuleLine, Skipped, TechFaultKind};
-use mls_kinds::PlaneNumber;
 use mls_text::{Word, Words};
 use std::alloc::{AllocError, Global};
 use std::mem;
@@ -55,13 +54,7 @@ impl Tech {
 
     /// Reads a line of a section.
     #[tactic(auto, unfolding(crate::specs::Readings::section_line))]
-    fn section_line(
-        &mut self,
-        alloc: Global,
-        section: Section,
-        number: usize,
-        line: &[u8],
-    ) -> Result<(), TechFaultKind>
+    fn section_line(&mut self, alloc: Global, section: Section, number: usize, line: &[u8]) -> Taken
         requires unbroken { IsUnbroken line.now }
         ensures { GivesUnlessMemory (λ _. self.new) result
             (spec.section_line section self.old (record { line = number; bytes = line.now })) }
@@ -90,23 +83,15 @@ impl Tech {
         Ok(())
     }
 
-    /// Reads a line of the section `planes`: the names of one plane.
+    /// Reads a line of the section `planes`: the names of one plane. At a fault no plane has a name.
     #[tactic(auto, unfolding(crate::specs::Readings::planes_line))]
-    fn planes_line(&mut self, alloc: Global, line: &[u8]) -> Result<(), TechFaultKind>
+    fn planes_line(&mut self, alloc: Global, line: &[u8]) -> Taken
         ensures { GivesUnlessMemory (λ _. self.new) result (spec.planes_line self.old (words_of line.now)) }
     {
         let mut words = Words::new(line);
         let (Some(names), None) = (words.next(), words.next()) else {
             return Err(TechFaultKind::BadForm);
         };
-        self.add_plane(alloc, names)
-    }
-
-    /// Adds a plane. At a fault no plane has a name.
-    fn add_plane(&mut self, alloc: Global, names: &[u8]) -> Result<(), TechFaultKind>
-        ensures { GivesUnlessMemory (λ _. self.new) result
-            (with_plane self.old names.now) }
-    {
         let mut planes = mem::replace(&mut self.planes, NameTable::new(alloc));
         planes.add_names(alloc, NameKind::PlaneName, self.plane_count, names)?;
         if self.plane_count >= MAX_PLANES {
@@ -117,9 +102,10 @@ impl Tech {
         Ok(())
     }
 
-    /// Reads a line of the section `types`: a plane, and the names of one type on it.
+    /// Reads a line of the section `types`: a plane, and the names of one type on it. At a fault no type is left, so
+    /// that none is without a name.
     #[tactic(auto, unfolding(crate::specs::Readings::types_line))]
-    fn types_line(&mut self, alloc: Global, line: &[u8]) -> Result<(), TechFaultKind>
+    fn types_line(&mut self, alloc: Global, line: &[u8]) -> Taken
         ensures { GivesUnlessMemory (λ _. self.new) result (spec.types_line self.old (words_of line.now)) }
     {
         let mut words = Words::new(line);
@@ -129,20 +115,6 @@ impl Tech {
         let plane = self
             .plane_named(without_dash(plane))
             .ok_or(TechFaultKind::UnknownPlane)?;
-        self.add_type(alloc, plane, names)
-    }
-
-    /// Adds a type on a plane. At a fault no type is left, so that none is without a name.
-    fn add_type(
-        &mut self,
-        alloc: Global,
-        plane: PlaneNumber,
-        names: &[u8],
-    ) -> Result<(), TechFaultKind>
-        requires known { plane < self.old.plane_count }
-        ensures { GivesUnlessMemory (λ _. self.new) result
-            (with_type self.old plane names.now) }
-    {
         let kind = self.kinds();
         let mut types = mem::replace(&mut self.types, NameTable::new(alloc));
         let mut type_planes = mem::replace(&mut self.type_planes, Vec::new(alloc));
@@ -158,12 +130,7 @@ impl Tech {
 
     /// Reads a line of the section `drc`.
     #[tactic(auto, unfolding(crate::specs::Readings::section_line))]
-    fn drc_section_line(
-        &mut self,
-        alloc: Global,
-        number: usize,
-        line: &[u8],
-    ) -> Result<(), TechFaultKind>
+    fn drc_section_line(&mut self, alloc: Global, number: usize, line: &[u8]) -> Taken
         ensures { GivesUnlessMemory (λ _. self.new) result
             (spec.section_line Drc self.old (record { line = number; bytes = line.now })) }
     {

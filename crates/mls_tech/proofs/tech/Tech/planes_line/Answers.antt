@@ -1,6 +1,6 @@
 use Rattle.mls_tech.specs.Names.{is_name}
 use Rattle.mls_tech.proofs.Limits.{IsWithinLimits-plane}
-use Rattle.mls_tech.proofs.tech.Tech.add_plane.Goals as goal
+use Rattle.mls_tech.proofs.tech.Tech.planes_line.Goals as goal
 
 pub invariant_of-self-2 : goal.invariant_of-self-2
 invariant_of-self-2 c =
