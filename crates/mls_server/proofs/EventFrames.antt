@@ -105,14 +105,8 @@ module _ (old : World) where
   MayLead-keeps (Open name) new (inr is) = kept_all new is
   MayLead-keeps (Close id) new (inl is) = subst (Keeps old) (sym is) (record { setting = refl; given = le_refl old.given; numbered = without_session-numbered old id })
   MayLead-keeps (Close id) new (inr is) = kept_all new is
-  MayLead-keeps (Command id command) new may = keep_keeps id new may
-  MayLead-keeps (Save id) new may = keep_keeps id new may
   MayLead-keeps (Look id look) new is = kept_all new is
-  MayLead-keeps (Grab id) new may = keep_keeps id new may
-  MayLead-keeps (Finish id finding) new may = keep_keeps id new may
-  MayLead-keeps (Step id) new may = keep_keeps id new may
-  MayLead-keeps (Steps id most) new may = keep_keeps id new may
-  MayLead-keeps (Settle id) new may = keep_keeps id new may
+  MayLead-keeps event new may = keep_keeps _ new may
 
   pub Happens-keeps : (event : Event) (answer : Answer) (new : World) → Happens old event answer new → Keeps old new
   Happens-keeps event answer new happens = MayLead-keeps event new (Happens-may old event answer new happens)
@@ -159,14 +153,8 @@ module _ (old : World) (numbered : IsNumbered old) (other : ℕ) where
       by_event : (event : Event) → is_of other event ≡ false → MayLead old event new → Leaves old other new
       by_event (Open name) not_of may = open_leaves name new may
       by_event (Close id) not_of may = close_leaves id new not_of may
-      by_event (Command id command) not_of may = keep_leaves id new not_of may
-      by_event (Save id) not_of may = keep_leaves id new not_of may
       by_event (Look id look) not_of is = left_all new is
-      by_event (Grab id) not_of may = keep_leaves id new not_of may
-      by_event (Finish id finding) not_of may = keep_leaves id new not_of may
-      by_event (Step id) not_of may = keep_leaves id new not_of may
-      by_event (Steps id most) not_of may = keep_leaves id new not_of may
-      by_event (Settle id) not_of may = keep_leaves id new not_of may
+      by_event event not_of may = keep_leaves _ new not_of may
 
 -- ---- ids that were given
 -- one that is not open never opens again
@@ -191,14 +179,8 @@ module _ (old : World) (id : ℕ) (new : World) (none : kept_in old id ≡ None)
   MayLead-closed : (event : Event) → is_of id event ≡ true → MayLead old event new → kept_in new id ≡ None
   MayLead-closed (Open name) of may = absurd cc
   MayLead-closed (Close number) of may = MayClose-closed number of may
-  MayLead-closed (Command number command) of may = MayKeep-closed number of may
-  MayLead-closed (Save number) of may = MayKeep-closed number of may
   MayLead-closed (Look number look) of is = same_closed is
-  MayLead-closed (Grab number) of may = MayKeep-closed number of may
-  MayLead-closed (Finish number finding) of may = MayKeep-closed number of may
-  MayLead-closed (Step number) of may = MayKeep-closed number of may
-  MayLead-closed (Steps number most) of may = MayKeep-closed number of may
-  MayLead-closed (Settle number) of may = MayKeep-closed number of may
+  MayLead-closed event of may = MayKeep-closed _ of may
 
   pub Happens-closed : (event : Event) (answer : Answer) → IsNumbered old → id ≤ old.given → Happens old event answer new → kept_in new id ≡ None
   Happens-closed event answer numbered given happens = by_test (is_of id event) refl
@@ -216,13 +198,3 @@ Runs-keeps old new (event ∷ events) (answer ∷ answers) (mid, happens, ran) =
     let first : Keeps old mid = Happens-keeps old event answer mid happens in
     let rest : Keeps mid new = Runs-keeps mid new events answers ran in
     record { setting = rest.setting ∙ first.setting; given = omega arith; numbered = λ numbered. rest.numbered (first.numbered numbered) }
-
-pub Runs-closed :
-    (old new : World) (id : ℕ) (events : List Event) (answers : List Answer) → IsNumbered old → id ≤ old.given → kept_in old id ≡ None
-    → Runs old events answers new → kept_in new id ≡ None
-Runs-closed old new id [] [] numbered given none ran = same_closed old id new none ran
-Runs-closed old new id [] (answer ∷ answers) numbered given none never = absurd never
-Runs-closed old new id (event ∷ events) [] numbered given none never = absurd never
-Runs-closed old new id (event ∷ events) (answer ∷ answers) numbered given none (mid, happens, ran) =
-    let keeps : Keeps old mid = Happens-keeps old event answer mid happens in
-    Runs-closed mid new id events answers (keeps.numbered numbered) (omega arith) (Happens-closed old id mid none event answer numbered given happens) ran

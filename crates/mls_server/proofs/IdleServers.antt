@@ -1,5 +1,5 @@
 -- A server on which no session is open, and the cells that are loaded then.
-use Rattle.std.proofs.Common.{◌≡◌, ◌↔◌, ℕ, ◌+◌, ◌-◌, not, cond, List, [], ◌∷◌, ◌++◌, length, map, Ok, Err, Result, OnErr, refl, sym, ap, subst, ◌∙◌, arith}
+use Rattle.std.proofs.Common.{◌≡◌, ℕ, ◌+◌, ◌-◌, not, cond, List, [], ◌∷◌, ◌++◌, length, map, Ok, Err, Result, OnErr, refl, sym, ap, subst, ◌∙◌, arith}
 use Rattle.std.specs.List.{position, position_or_len}
 use Rattle.std.specs.Result.{IsOkAnd}
 use Rattle.std.proofs.lemmas.List.{length-map, map-append}
@@ -25,13 +25,6 @@ module _ (pool : Pool) where
   no_session : (entries : List (List ℕ × OpenSession)) → map (seat_for pool) entries ≡ [] → entries ≡ []
   no_session [] none = refl
   no_session (entry ∷ entries) none = absurd cc
-
-  no_seat : (entries : List (List ℕ × OpenSession)) → length entries ≡ 0 → map (seat_for pool) entries ≡ []
-  no_seat [] none = refl
-  no_seat (entry ∷ entries) none = absurd (omega (arith, none))
-
-  pub idle-length : (entries : List (List ℕ × OpenSession)) → (length entries ≡ 0) ↔ (map (seat_for pool) entries ≡ [])
-  idle-length entries = (no_seat entries, λ none. ap length (no_session entries none))
 
 -- then only the cells need be at home
 pub AreOpen-none :

@@ -82,15 +82,8 @@ module _ (terms : Terms) where
       (subst (λ (last : Kept). Leads terms (AddsCommand CatchUp (Stopped Memory (length own.design.checking.dirty))) [] before last)
       (sym kept) (stopped_led count before own is left))
   RunsOut-leads before AskWhy reply after (boxed, refused, kept) = none_led AskWhy before after reply refused kept
-  RunsOut-leads before (Box left bottom right top) reply after never = absurd never
-  RunsOut-leads before (Paint kind) reply after never = absurd never
-  RunsOut-leads before (Erase kinds) reply after never = absurd never
-  RunsOut-leads before (Dump cell dx dy) reply after never = absurd never
-  RunsOut-leads before (GetCell cell dx dy) reply after never = absurd never
   RunsOut-leads before What reply after (boxed, used, refused, kept) = none_led What before after reply refused kept
-  RunsOut-leads before SaveCommand reply after never = absurd never
-  RunsOut-leads before Check reply after never = absurd never
-  RunsOut-leads before AskCount reply after never = absurd never
+  RunsOut-leads before command reply after never = absurd never
 
   pub Commands-leads :
       (before : Kept) (command : OwnCommand) (reply : Reply) (after : Kept) → Commands terms before command reply after

@@ -99,12 +99,5 @@ fn is_name(word: &[u8]) -> bool
 fn has_name_bytes(word: &[u8]) -> bool
     ensures { result ≡ list_all spec.is_name_byte word.now }
 {
-    word.iter().all(|b| is_name_byte(*b))
-}
-
-/// Returns whether the byte may be in a name.
-fn is_name_byte(b: u8) -> bool
-    ensures { result ≡ spec.is_name_byte b }
-{
-    b.is_ascii_alphanumeric() || b == b'_'
+    word.iter().all(|b| b.is_ascii_alphanumeric() || *b == b'_')
 }
