@@ -9,6 +9,6 @@ mod words;
 
 pub use digits::{is_number, value_at_most};
 pub use fields::Fields;
-pub use lines::{next_line, without_return};
+pub use lines::{line_feed_at, next_line, without_return};
 pub use word::Word;
 pub use words::{Words, blanks_len, word_len};

@@ -22,7 +22,7 @@ pub fn next_line(bytes: &[u8]) -> Option<(&[u8], &[u8])>
 }
 
 /// Returns the index of the first line feed.
-fn line_feed_at(bytes: &[u8]) -> Option<usize>
+pub fn line_feed_at(bytes: &[u8]) -> Option<usize>
     ensures { result ≡ position (λ byte. byte == 10) bytes.now }
 {
     bytes.iter().position(|byte| *byte == b'\n')
