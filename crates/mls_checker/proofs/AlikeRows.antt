@@ -1,5 +1,6 @@
 -- A row that is the same as the one below begins no area, and has as many squares.
-use Rattle.std.proofs.Common.{◌≡◌, ℕ, ◌+◌, ◌-◌, ◌*◌, ◌/◌, ◌%◌, ◌<◌, ◌≤◌, inl, inr, Bool, true, false, ◌&&◌, List, slice_index, refl, sym, ap, subst, ◌∙◌, arith}
+use Rattle.std.proofs.Common.{◌≡◌, ℕ, ◌+◌, ◌-◌, ◌*◌, ◌/◌, ◌%◌, ◌<◌, ◌≤◌, inl, inr, Bool, true, ◌&&◌, List, slice_index, sym, ap, subst, ◌∙◌, arith}
+use Rattle.mls_checker.proofs.FoundSquares.{and_in}
 use Rattle.std.specs.List.{count_by}
 use Rattle.std.proofs.Math.Path.{fun_ext}
 use Rattle.std.proofs.lemmas.Bool.{cases_lt}
@@ -56,9 +57,6 @@ pub alike-count : (set : SquareSet) (low row : ℕ) (list : List ℕ) → AreAli
 alike-count set low row list alike = ap (λ (test : ℕ → Bool). count_by test list) (fun_ext alike)
 
 -- ---- words
-in_both : (h a b : Bool) → (h ≡ true → a ≡ b) → (h && a) ≡ (h && b)
-in_both true a b same = same refl
-in_both false a b same = refl
 
 alike-tests : (rect : Rect) (x row : ℕ) → rect.bottom < row → row < rect.top → holds rect x (row - 1) ≡ holds rect x row
 alike-tests rect x row above before = grind (arith, nat_tests)
@@ -88,7 +86,7 @@ alike-words map row is above before same x =
     let rect = map.rect in
     let next : row - map.frame.bottom ≡ row - 1 - map.frame.bottom + 1 = omega (arith, is.round.below) in
     ap (λ b. b && has_place map.words (place_of map.frame x (row - 1))) (alike-tests rect x row above before)
-    ∙ in_both (holds rect x row) (has_place map.words (place_of map.frame x (row - 1))) (has_place map.words (place_of map.frame x row)) (λ here.
+    ∙ and_in (holds rect x row) (has_place map.words (place_of map.frame x (row - 1))) (has_place map.words (place_of map.frame x row)) (λ here.
     let lines = holds_between rect x row here in
     alike-places map.words (row - 1 - map.frame.bottom) map.frame.words (x - map.frame.left) (omega (arith, is.round.left, is.round.right, lines.0, lines.1))
     (λ i on under. same i (omega (arith, on, ap (λ r. r * map.frame.words) next)) (omega (arith, under, ap (λ r. r * map.frame.words) next)))

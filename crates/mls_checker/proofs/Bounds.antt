@@ -1,5 +1,5 @@
 -- The smallest area that has the squares of a set, line by line.
-use Rattle.std.proofs.Common.{◌≡◌, ℕ, ◌+◌, ◌-◌, ◌<◌, min, true, false, ◌||◌, inl, inr, true≢false, sym, ◌∙◌, arith}
+use Rattle.std.proofs.Common.{◌≡◌, ℕ, ◌+◌, ◌-◌, ◌<◌, min, true, ◌||◌, inl, inr, sym, ◌∙◌, arith}
 use Rattle.std.proofs.lemmas.Bool.{or_left, or_right, or_cases}
 use Rattle.mls_geom.specs.Rects.{Rect, holds, joined}
 use Rattle.mls_geom.proofs.Holds.{between_holds, holds_between}
@@ -46,16 +46,6 @@ tight-bounds set e near is = record {
       between_holds other x y (omega (arith, left, right', lines.0, lines.1)) (omega (arith, right, lines.1)) (omega (arith, bottom, top', lines.2, lines.3)) (omega (arith, top, lines.3));
 }
 
--- an area without squares whose lines lie beyond all others
-pub tight-nowhere : (set : SquareSet) → ((x y : ℕ) → set x y ≡ false) → IsTightOf set (record { left = 4294967295; bottom = 4294967295; right = 0; top = 0 })
-tight-nowhere set none = record {
-  all = λ x y here. absurd (true≢false (sym here ∙ none x y));
-  left = λ l few each. few;
-  bottom = λ l few each. few;
-  right = λ r each. omega arith;
-  top = λ r each. omega arith;
-}
-
 -- an area whose outermost squares are in the set
 pub tight-ends : (set : SquareSet) (e : Rect) → ((x y : ℕ) → set x y ≡ true → holds e x y ≡ true) → e.left < e.right → e.top ≡ e.bottom + 1
     → set e.left e.bottom ≡ true → set (e.right - 1) e.bottom ≡ true → IsTightOf set e
@@ -65,13 +55,6 @@ tight-ends set e all wide flat first last = record {
   bottom = λ l few each. each e.left e.bottom first;
   right = λ r each. omega (arith, each (e.right - 1) e.bottom last);
   top = λ r each. omega (arith, each e.left e.bottom first);
-}
-
--- a rectangle is the smallest area that has its squares, if it has any
-pub own-bounds : (set : SquareSet) (e : Rect) → ((x y : ℕ) → set x y ≡ holds e x y) → IsBoundsOf set e
-own-bounds set e same = record {
-  all = λ x y here. sym (same x y) ∙ here;
-  least = λ other has x y here. has x y (same x y ∙ here);
 }
 
 pub bounds-same : (set other : SquareSet) (e : Rect) → ((x y : ℕ) → set x y ≡ other x y) → IsBoundsOf set e → IsBoundsOf other e

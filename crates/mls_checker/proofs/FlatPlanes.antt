@@ -1,5 +1,5 @@
 -- Copies of a zone on all planes of a layout with uses.
-use Rattle.std.proofs.Common.{◌≡◌, ◌↔◌, ℕ, zero, suc, ◌+◌, ◌<◌, inl, inr, Some, List, [], ◌∷◌, ◌++◌, get_or, length, slice_get, All, refl, sym, ap, ◌∙◌, arith}
+use Rattle.std.proofs.Common.{◌≡◌, ◌↔◌, ℕ, zero, suc, ◌+◌, ◌<◌, inl, inr, Some, List, [], ◌∷◌, ◌++◌, get_or, length, slice_get, refl, sym, ap, ◌∙◌, arith}
 use Rattle.std.specs.Option.{unwrap_or}
 use Rattle.std.proofs.Math.Path.{fun_ext}
 use Rattle.std.proofs.lemmas.Bool.{cases_Bool, cases_lt, cond-false, cond-true}
@@ -8,8 +8,7 @@ use Rattle.mls_geom.specs.Layouts.{Layout}
 use Rattle.mls_geom.specs.Pictures.{Picture}
 use Rattle.mls_geom.specs.Rects.{Rect, holds}
 use Rattle.mls_tilepool.specs.Pools.{Pool}
-use Rattle.mls_library.specs.Libraries.{Library}
-use Rattle.mls_layout.specs.Uses.{HasCells, HasFlatPlane, HasLayout, flat_layout, flat_plane}
+use Rattle.mls_layout.specs.Uses.{HasCells, flat_layout, flat_plane}
 use Rattle.mls_layout.specs.declared.uses.Uses.{Uses}
 use Rattle.mls_layout.proofs.FlatLayouts.{flat_layout-beyond, flat_layout-plane}
 use Rattle.mls_checker.specs.Copies.{IsOfZone, PlaneTiles, no_plane, plane_picture}
@@ -19,9 +18,6 @@ use Rattle.mls_checker.proofs.Copying.{cut}
 use Rattle.mls_checker.proofs.NoPlane.{no_plane-space}
 
 -- ---- plane by plane
--- planes that can be read together can each be read
-pub each-HasFlatPlane : (pool : Pool) (library : Library) (owners : List ℕ) → HasLayout pool owners library → All (λ owner. HasFlatPlane pool owner library) owners
-each-HasFlatPlane pool library owners has k d within = record { plane = has.planes.each k d within; fits = has.planes.fit k d within; cells = has.cells.home }
 
 -- what the layout has on a plane in the zone, where neither the pool nor the owners have changed
 pub flat-at :

@@ -1,5 +1,5 @@
 -- Tiles of a zone made of pieces that leave no square of it out.
-use Rattle.std.proofs.Common.{◌≡◌, ℕ, ◌+◌, ◌<◌, length, take, true, inl, inr, List, [], ◌∷◌, ◌++◌, get_or, map, sym, ap, subst, ◌∙◌, arith}
+use Rattle.std.proofs.Common.{◌≡◌, ◌+◌, true, inl, inr, List, [], ◌++◌, get_or, map, sym, ap, subst, ◌∙◌, arith}
 use Rattle.std.proofs.lemmas.Bool.{and_from, cases_Bool}
 use Rattle.std.proofs.lemmas.List.Elements.{All-append, All-map}
 use Rattle.mls_geom.specs.Pictures.{Picture}
@@ -9,11 +9,10 @@ use Rattle.mls_geom.proofs.Ascending.{Contains-map}
 use Rattle.mls_geom.proofs.Holds.{holds_common}
 use Rattle.mls_geom.proofs.JoinedLists.{Any-append_left, Any-append_right}
 use Rattle.mls_layout.specs.Grids.{AppendsCover, CoverBlock}
-use Rattle.mls_checker.specs.FlatZones.{found_tiles, piece_tiles}
+use Rattle.mls_checker.specs.FlatZones.{piece_tiles}
 use Rattle.mls_checker.specs.Tiles.{AreTiles, HasTile, IsAmid, Tile, clipped_tile, space_round}
 use Rattle.mls_checker.proofs.Copying.{cut}
-use Rattle.mls_checker.proofs.Prefixes.{take_next}
-use Rattle.mls_checker.proofs.ZoneTiles.{InExtent, append-push, clipped-shown, map-push, outside_in_space, space-bounded, space-shown}
+use Rattle.mls_checker.proofs.ZoneTiles.{InExtent, clipped-shown, outside_in_space, space-bounded, space-shown}
 
 -- a piece in the zone stays in the extent
 inner-bounded : (extent zone rect : Rect) → IsAmid extent zone → IsRectangleIn zone rect → IsRectangleIn extent (common rect zone)
@@ -50,12 +49,3 @@ pieces-AreTiles extent zone picture pieces amid cover =
 pub AppendsCover-none : (zone : Rect) (picture : Picture) (old new : List Piece) → old ≡ [] → AppendsCover zone picture old new → CoverBlock zone picture new
 AppendsCover-none zone picture old new none (more, is, cover) =
     subst (CoverBlock zone picture) (sym (is ∙ ap (λ (pieces : List Piece). pieces ++ more) none)) cover
-
--- one more found is one tile more
-pub found_tiles-next :
-    {X : Type 0} (piece_of : X → Piece) (extent zone : Rect) (found : List X) (n : ℕ) (one : X) → n < length found → one ≡ get_or found n one
-    → found_tiles piece_of extent zone (take n found) ++ clipped_tile zone (piece_of one) ∷ [] ≡ found_tiles piece_of extent zone (take (n + 1) found)
-found_tiles-next {X} piece_of extent zone found n one below is =
-    let clip : X → Tile = λ x. clipped_tile zone (piece_of x) in
-    append-push (space_round extent zone) (map clip (take n found)) (clip one)
-    ∙ ap (λ rest. space_round extent zone ++ rest) (sym (ap (map clip) (take_next found n one below is) ∙ map-push clip (take n found) one))

@@ -1,5 +1,5 @@
 -- Scans of the squares just before tiles, tile by tile and part by part.
-use Rattle.std.proofs.Common.{◌≡◌, ℕ, ◌+◌, ◌<◌, ◌≤◌, Bool, true, ◌||◌, inl, inr, List, [], ◌++◌, length, map, take, get_or, refl, sym, ap, subst, ◌∙◌, arith}
+use Rattle.std.proofs.Common.{◌≡◌, ℕ, ◌+◌, ◌<◌, ◌≤◌, Bool, true, ◌||◌, List, [], ◌++◌, length, map, take, get_or, refl, sym, ap, subst, ◌∙◌, arith}
 use Rattle.std.specs.List.{Contains, list_any}
 use Rattle.std.proofs.lemmas.Bool.{and_parts}
 use Rattle.std.proofs.lemmas.List.{get_or_default, map-append}
@@ -11,10 +11,9 @@ use Rattle.mls_geom.specs.Layouts.{Layout}
 use Rattle.mls_geom.specs.Pictures.{Picture}
 use Rattle.mls_geom.specs.Rects.{IsRectangleIn, Rect, FitsWith, after_part, common, has_squares, holds}
 use Rattle.mls_geom.specs.declared.direction.Direction.{Direction}
-use Rattle.mls_geom.specs.declared.direction.Direction.TheVariants.{Right, Up, Left, Down}
 use Rattle.mls_geom.proofs.Holds.{between_holds, has_squares_lines, holds_between, holds_common}
 use Rattle.mls_checker.specs.Marking.{GainsDisallowed, SquareSet}
-use Rattle.mls_checker.specs.Sides.{EndsIn, GainsParts, GainsSidesReach, IsSide, IsThin, Side, faced, front_reaches, front_side, reaches_from, sides_reach}
+use Rattle.mls_checker.specs.Sides.{EndsIn, GainsParts, GainsSidesReach, IsSide, Side, faced, front_reaches, front_side, reaches_from, sides_reach}
 use Rattle.mls_checker.specs.Tiles.{AreTiles, HasTile, Tile, outer, space_in}
 use Rattle.mls_checker.proofs.FacedSides.{list_any-mapped}
 use Rattle.mls_checker.proofs.FlankParts.{after-lines}
@@ -82,12 +81,6 @@ fronts_all represents rule layout tiles area direction old new are all =
     let (sides, sides_are, gains) = all in (sides, sides-AreSides (axis direction) outer (layout rule.trigger_plane) tiles sides are sides_are, gains)
 
 -- ---- part by part
--- the squares just before a rectangle are thin, in the extent too
-pub front-thin : (direction : Direction) (e extent : Rect) → IsThin (common (front_of direction e) extent)
-front-thin Right e extent = inl (omega arith)
-front-thin Up e extent = inr (omega arith)
-front-thin Left e extent = inl (omega arith)
-front-thin Down e extent = inr (omega arith)
 
 -- a rectangle goes on to the right and upper lines of another
 pub record IsRestOf (whole rest : Rect) : Type 0 where

@@ -1,7 +1,7 @@
 -- Bands that are laid on a map.
 use Rattle.std.proofs.Common.{◌≡◌, ℕ, ◌+◌, ◌-◌, ◌*◌, ◌/◌, ◌%◌, ◌<◌, ◌≤◌, inl, inr, Bool, true, false, ◌||◌, ◌&&◌, List, length, set, refl, sym, ap, ◌∙◌, arith}
 use Rattle.std.specs.Prelude.{bit_and, bit_or, nat_lt, slice_index}
-use Rattle.std.proofs.Math.Bool.{or-false}
+use Rattle.std.proofs.Math.Bool.{or-false, and_comm}
 use Rattle.std.proofs.lemmas.Bool.{cases_eq, cases_lt}
 use Rattle.std.proofs.lemmas.Bool.Decides.{nat_tests}
 use Rattle.std.proofs.lemmas.Nat.{mul-le}
@@ -41,12 +41,6 @@ laid-row old map first stride i v word columns row k more some within is gives b
 ]
 
 -- ---- squares of a band
-and-flip : (a b : Bool) → (a && b) ≡ (b && a)
-and-flip true true = refl
-and-flip true false = refl
-and-flip false true = refl
-and-flip false false = refl
-
 out : (here marked b : Bool) → (here ≡ true → ⊥) → b ≡ (b || (here && marked))
 out true marked b not_in = absurd (not_in refl)
 out false marked b not_in = sym (or-false b)
@@ -86,7 +80,7 @@ laid-here frame band old new first columns x y is fits first_is mask there on fe
     ∙ there row k (omega (arith, low, high, is.marked))
     ∙ ap (λ b. b || (has_column band.marked row k && has_bit columns k)) (sym (place-at old (place_of frame x y) (first + row * frame.words) k at below))
     ∙ ap (λ b. has_place old (place_of frame x y) || (has_column band.marked row k && b)) (mask k ∙ in-columns e x y on low high)
-    ∙ ap (λ b. has_place old (place_of frame x y) || b) (and-flip (has_column band.marked row k) (holds e x y))
+    ∙ ap (λ b. has_place old (place_of frame x y) || b) (and_comm (has_column band.marked row k) (holds e x y))
 
 -- a square of a word in which nothing was laid lies outside the band
 outside : (band : Band) (x y : ℕ) → (holds band.area x y ≡ true → ⊥) → (b : Bool) → b ≡ (b || marked_in band x y)

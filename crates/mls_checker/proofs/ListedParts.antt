@@ -1,65 +1,25 @@
 -- The squares of an area that a rule doesn't allow, as a list of parts of tiles.
-use Rattle.std.proofs.Common.{◌≡◌, ℕ, Bool, true, false, not, ◌||◌, ◌&&◌, List, [], ◌∷◌, ◌++◌, refl, sym, ap, ◌∙◌, arith}
+use Rattle.std.proofs.Common.{◌≡◌, ℕ, Bool, true, false, not, ◌||◌, ◌&&◌, List, refl, sym, ap, ◌∙◌}
+use Rattle.mls_checker.proofs.SideLists.{in_area}
 use Rattle.std.specs.Cmp.{both_ways}
 use Rattle.std.specs.List.{list_any}
-use Rattle.std.proofs.Math.Bool.{or-false}
 use Rattle.std.proofs.lemmas.Bool.{and_from, and_parts}
 use Rattle.std.proofs.lemmas.List.Elements.{All-contains}
-use Rattle.std.proofs.lemmas.List.Folds.{Any-from_list_any, list_any-append, list_any-from_Any}
+use Rattle.std.proofs.lemmas.List.Folds.{Any-from_list_any, list_any-from_Any}
 use Rattle.mls_edgerule.specs.declared.edge_rule.EdgeRule.{EdgeRule}
 use Rattle.mls_geom.specs.Layouts.{Layout}
 use Rattle.mls_geom.specs.Rects.{Rect, IsRectangleIn, common, holds}
-use Rattle.mls_geom.proofs.Holds.{between_holds, holds_between, holds_common}
+use Rattle.mls_geom.proofs.Holds.{holds_common}
 use Rattle.mls_geom.proofs.ShiftedSquares.{at}
 use Rattle.mls_kinds.specs.KindSets.{has_bit as has_type}
 use Rattle.mls_checker.specs.Forbids.{is_disallowed}
-use Rattle.mls_checker.specs.Marking.{SquareSet, has_disallowed_kind, squares_of, with_disallowed}
+use Rattle.mls_checker.specs.Marking.{SquareSet, has_disallowed_kind, with_disallowed}
 use Rattle.mls_checker.specs.Tiles.{AreTiles, HasTile, Tile}
 use Rattle.mls_checker.specs.Violations.{shows_disallowed}
-use Rattle.mls_checker.proofs.MarkedAreas.{or_three, squares-push}
 
 -- ---- one part more
--- the areas have the squares of a set, and those of the parts that the rule doesn't allow
-abbrev pub HasParts : EdgeRule → SquareSet → List Rect → List Tile → Type 0
-HasParts rule set areas parts = (x y : ℕ) → squares_of areas x y ≡ (set x y || list_any (shows_disallowed rule x y) parts)
-
-shows-more :
-    (rule : EdgeRule) (parts : List Tile) (part : Tile) (x y : ℕ)
-    → list_any (shows_disallowed rule x y) (parts ++ part ∷ []) ≡ (list_any (shows_disallowed rule x y) parts || shows_disallowed rule x y part)
-shows-more rule parts part x y =
-    list_any-append (shows_disallowed rule x y) parts (part ∷ [])
-    ∙ ap (λ b. list_any (shows_disallowed rule x y) parts || b) (or-false (shows_disallowed rule x y part))
-
-more_none : (areas set some allowed here : Bool) → allowed ≡ true → areas ≡ (set || some) → areas ≡ (set || (some || (not allowed && here)))
-more_none areas set some true here is same = same ∙ ap (λ b. set || b) (sym (or-false some))
-more_none areas set some false here is same = absurd (cc)
-
-more_here : (areas set some allowed here : Bool) → allowed ≡ false → areas ≡ (set || some) → (areas || here) ≡ (set || (some || (not allowed && here)))
-more_here areas set some false here is same = ap (λ b. b || here) same ∙ or_three set some here
-more_here areas set some true here is same = absurd (cc)
-
--- one of a kind that the rule allows is left out
-pub parts-allowed :
-    (rule : EdgeRule) (set : SquareSet) (areas : List Rect) (parts : List Tile) (part : Tile) → has_type rule.ok_types part.kind ≡ true → HasParts rule set areas parts
-    → HasParts rule set areas (parts ++ part ∷ [])
-parts-allowed rule set areas parts part allowed has = λ x y.
-    more_none (squares_of areas x y) (set x y) (list_any (shows_disallowed rule x y) parts) (has_type rule.ok_types part.kind) (holds part.area x y) allowed (has x y)
-    ∙ ap (λ b. set x y || b) (sym (shows-more rule parts part x y))
-
--- and any other is listed
-pub parts-listed :
-    (rule : EdgeRule) (set : SquareSet) (areas : List Rect) (parts : List Tile) (part : Tile) → has_type rule.ok_types part.kind ≡ false → HasParts rule set areas parts
-    → HasParts rule set (areas ++ part.area ∷ []) (parts ++ part ∷ [])
-parts-listed rule set areas parts part allowed has = λ x y.
-    squares-push areas part.area x y
-    ∙ more_here (squares_of areas x y) (set x y) (list_any (shows_disallowed rule x y) parts) (has_type rule.ok_types part.kind) (holds part.area x y) allowed (has x y)
-    ∙ ap (λ b. set x y || b) (sym (shows-more rule parts part x y))
 
 -- ---- all parts of an area
-holds_inside : (area part : Rect) (x y : ℕ) → IsRectangleIn area part → holds part x y ≡ true → holds area x y ≡ true
-holds_inside area part x y inside here =
-    let lines = holds_between part x y here in
-    between_holds area x y (omega (arith, inside.left_in, lines.0)) (omega (arith, inside.right_in, lines.1)) (omega (arith, inside.bottom_in, lines.2)) (omega (arith, inside.top_in, lines.3))
 
 -- they show the squares of the area that the rule doesn't allow
 disallowed-parts :
@@ -73,7 +33,7 @@ disallowed-parts rule layout area parts x y are =
     let (kind, here) = and_parts (has_disallowed_kind rule part) (holds part.area x y) passes in
     let shown = All-contains (HasTile picture) parts part are.shown (k, within, is) x y here in
     let lines = All-contains (λ (t : Tile). IsRectangleIn area t.area) parts part are.bounded (k, within, is) in
-    and_from (holds area x y) (is_disallowed rule layout (at x y)) (holds_inside area part.area x y lines here) (ap (λ (n : ℕ). not (has_type rule.ok_types n)) shown ∙ kind))
+    and_from (holds area x y) (is_disallowed rule layout (at x y)) (in_area area part.area x y lines here) (ap (λ (n : ℕ). not (has_type rule.ok_types n)) shown ∙ kind))
     (λ both.
     let (inside, disallowed) = and_parts (holds area x y) (is_disallowed rule layout (at x y)) both in
     let (k, part, within, is, here) = are.whole x y inside in

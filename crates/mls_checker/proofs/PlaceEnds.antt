@@ -48,10 +48,6 @@ pub is-differs : (wanted b : Bool) → b ≡ not wanted → differs wanted b ≡
 is-differs true b is = ap not is
 is-differs false b is = is
 
-pub not-differs : (wanted b : Bool) → b ≡ wanted → differs wanted b ≡ false
-not-differs true b is = ap not is
-not-differs false b is = is
-
 not-not : (b : Bool) → not (not b) ≡ b
 not-not true = refl
 not-not false = refl

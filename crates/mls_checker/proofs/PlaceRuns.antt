@@ -19,9 +19,6 @@ otherwise true b is = is
 otherwise false true is = refl
 otherwise false false is = sym is
 
-pub wanted-yes : (words : List ℕ) (place : ℕ) → slice_index words (place / 64) < 2 ^ 64 → IsWanted true words place (slice_index words (place / 64))
-wanted-yes words place fits = record { fits = fits; bits = λ k below. refl }
-
 pub wanted-no : (words : List ℕ) (place : ℕ) → slice_index words (place / 64) < 2 ^ 64 → IsWanted false words place (bit_not w64 (slice_index words (place / 64)))
 wanted-no words place fits = record { fits = omega arith; bits = λ k below. has_bit-not w64 (slice_index words (place / 64)) k fits below }
 

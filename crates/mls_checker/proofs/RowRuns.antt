@@ -137,16 +137,6 @@ run-begins rect set row top left right areas first last low high some rises have
     }
 
 -- ---- rows
--- no square before the next run
-pub none-until : (rect : Rect) (set : SquareSet) (row from left right : ℕ) (areas : List Rect) → IsNextRun set row from left right → HaveBefore rect set row from areas → HaveBefore rect set row left areas
-none-until rect set row from left right areas run have = record {
-  strips = have.strips;
-  below = have.below;
-  beside = λ x before is. elim (cases_lt x from) [
-    | inl earlier ↦ have.beside x earlier is
-    | inr on ↦ absurd (true≢false (sym is ∙ run.none x on before))
-  ];
-}
 
 -- all runs of a row were added
 pub row-done : (rect : Rect) (set : SquareSet) (row from : ℕ) (areas : List Rect) → ((x y : ℕ) → set x y ≡ true → rect.left ≤ x) → ((x : ℕ) → from ≤ x → set x row ≡ false)

@@ -8,16 +8,13 @@ use Rattle.std.proofs.lemmas.List.Sums.{count_by-le-length, sum_by-le}
 use Rattle.mls_geom.specs.Rects.{Rect}
 use Rattle.mls_geom.specs.Pictures.{columns, rows}
 use Rattle.mls_checker.specs.MarkRuns.{IsNextRun}
-use Rattle.mls_checker.specs.Marking.{SquareSet, runs_of_row, square_count}
+use Rattle.mls_checker.specs.Marking.{SquareSet, square_count}
 
 -- ---- how many runs
 -- the runs of a row so far: each square that is still to come lies beyond twice their number, and the row has twice as many columns but one
 pub record FewRuns (set : SquareSet) (rect : Rect) (y from runs : ℕ) : Type 0 where
   pub next : (x : ℕ) → from ≤ x → set x y ≡ true → rect.left + runs * 2 ≤ x
   pub all : runs * 2 ≤ rect.right - rect.left + 1
-
-pub FewRuns-none : (set : SquareSet) (rect : Rect) (y : ℕ) → FewRuns set rect y rect.left 0
-FewRuns-none set rect y = record { next = λ x on is. omega arith; all = omega arith }
 
 -- after a run its end is a gap; it may have added an area or none
 pub FewRuns-more : (set : SquareSet) (rect : Rect) (y from left right runs more : ℕ) → IsNextRun set y from left right → right ≤ rect.right → more ≤ runs + 1
@@ -33,13 +30,6 @@ FewRuns-more set rect y from left right runs more run within one few =
       ];
       all = omega (arith, first, run.some, within, one);
     }
-
-pub row-few : (set : SquareSet) (rect : Rect) (y from runs : ℕ) → FewRuns set rect y from runs → runs ≤ runs_of_row rect
-row-few set rect y from runs few = omega (arith, few.all)
-
--- one row more
-pub rows-few : (now new rows half : ℕ) → now ≤ rows * half → new ≤ now + half → new ≤ (rows + 1) * half
-rows-few now new rows half so_far more = omega (arith, so_far, more)
 
 -- ---- how many squares
 -- one number more of a range

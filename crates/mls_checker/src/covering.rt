@@ -26,23 +26,10 @@ fn covers(rule: &EdgeRule, other: &EdgeRule) -> bool
     *rule == reaching
 }
 
-/// Whether some rule of a list covers the rule.
-fn is_covered(rule: &EdgeRule, rules: &[EdgeRule]) -> bool
-    ensures { IsTrue result → (layout : Layout) (x y : ℕ) → forbids rule.now layout (square x y) ≡ true
-        → forbidden_by_any rules.now layout x y ≡ true }
-{
-    for other in rules {
-        if covers(other, rule) {
-            return true;
-        }
-    }
-    false
-}
-
 /// Whether the rule may forbid what none of the other rules does.
 pub(crate) fn is_needed(rule: &EdgeRule, others: &[EdgeRule], snapshot: &Snapshot) -> bool
     ensures { result ≡ false → (x y : ℕ) → forbids rule.now (copied_layout snapshot.now) (square x y) ≡ true
         → forbidden_by_any others.now (copied_layout snapshot.now) x y ≡ true }
 {
-    !is_idle(rule, snapshot) && !is_covered(rule, others)
+    !is_idle(rule, snapshot) && !others.iter().any(|other| covers(other, rule))
 }

@@ -6,7 +6,7 @@ ghost use Rattle.mls_edgerule.specs.Halos.{halo_of};
 use crate::Snapshot;
 use crate::idle::is_idle;
 use crate::map_frame::Frame;
-use mls_edgerule::{EdgeRule, Rules};
+use mls_edgerule::Rules;
 use mls_geom::Rect;
 
 /// So few tiles take less time by their sides, whatever the words and the rules.
@@ -18,17 +18,6 @@ const WORDS_OF_TILE: usize = 8;
 
 /// The maps that the rules share take as long as those that so many rules have for themselves, as was measured.
 const RULES_OF_SHARED: usize = 4;
-
-/// Returns how many of the rules aren't idle.
-fn count_active(rules: &[EdgeRule], snapshot: &Snapshot) -> usize {
-    let mut count: usize = 0;
-    for rule in rules {
-        if !is_idle(rule, snapshot) {
-            count = count.saturating_add(1);
-        }
-    }
-    count
-}
 
 /// Whether so many tiles take less time by maps of so many words than by their sides, with so many rules that aren't
 /// idle. By sides a tile costs the same for each of them; by maps a word costs less for each, and something once.
@@ -46,7 +35,8 @@ pub(crate) fn frame_of_dense(rules: &Rules, snapshot: &Snapshot, rect: Rect) -> 
     ensures { IfSome result (λ frame. IsRound frame rect (halo_of rules.now)) }
 {
     let frame = Frame::around(rect, rules.halo())?;
-    let active = count_active(rules.as_slice(), snapshot);
+    let rules = rules.as_slice();
+    let active = rules.iter().filter(|rule| !is_idle(rule, snapshot)).count();
     if are_dense(snapshot.tile_count(), frame.size(), active) {
         return Some(frame);
     }

@@ -94,9 +94,7 @@ impl Lines {
 
     /// Returns the place of the line at which the tile of this index begins.
     pub fn place_of(&self, tiles: &[Tile], index: u32) -> usize {
-        match tiles.get(index as usize) {
-            Some(tile) => self.place(self.start.first(&tile.area)),
-            None => 0,
-        }
+        let tile = tiles.get(index as usize);
+        tile.map_or(0, |tile| self.place(self.start.first(&tile.area)))
     }
 }

@@ -103,24 +103,13 @@ impl Frame {
         ensures short { result.places ≤ 16777216 }
     {
         let row = (COLUMNS * self.words) as usize;
-        match direction {
-            Direction::Right => Step {
-                is_on: true,
-                places: 1,
-            },
-            Direction::Up => Step {
-                is_on: true,
-                places: row,
-            },
-            Direction::Left => Step {
-                is_on: false,
-                places: 1,
-            },
-            Direction::Down => Step {
-                is_on: false,
-                places: row,
-            },
-        }
+        let (is_on, places) = match direction {
+            Direction::Right => (true, 1),
+            Direction::Up => (true, row),
+            Direction::Left => (false, 1),
+            Direction::Down => (false, row),
+        };
+        Step { is_on, places }
     }
 }
 

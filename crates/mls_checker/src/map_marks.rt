@@ -81,26 +81,20 @@ impl MapMarks {
         self.add(shown, rule);
         has_any(&self.marked, self.frame, rect)
     }
-
-    /// Returns the marked squares of a piece.
-    fn into_map(self, piece: Rect) -> MarkMap
-        requires { IsRound self.frame piece 0 }
-        ensures { result ≡ record { rect = piece; frame = self.frame; words = self.marked.items } }
-    {
-        MarkMap::new(piece, self.frame, self.marked)
-    }
 }
 
-/// Marks on maps of a frame the squares that the rules forbid.
-fn find_forbidden(
+/// Finds the squares of a piece that the rules forbid, on maps of the piece with so many squares more on each side.
+pub(crate) fn mark_on_maps(
     alloc: Global,
     rules: &[EdgeRule],
     snapshot: &Snapshot,
+    piece: Rect,
     frame: Frame,
-) -> Result<MapMarks, AllocError>
-    ensures frame { IfOk result (λ marks. marks.frame ≡ frame) }
-    ensures marked { IfOk result (λ marks. (depth : ℕ) → halo_of rules.now ≤ depth
-        → HasDeep frame depth (forbidden_by_any rules.now (copied_layout snapshot.now)) marks.marked.items) }
+) -> Result<Marks, AllocError>
+    requires { IsRound frame piece (halo_of rules.now) }
+    ensures rect { IfOk result (λ marked. marked.rect ≡ piece) }
+    ensures marks { IfOk result (λ marked. (x y : ℕ) → marks marked x y
+        ≡ (holds piece x y && forbidden_by_any rules.now (copied_layout snapshot.now) x y)) }
 {
     let mut marks = MapMarks::new(alloc, frame)?;
     let kept = list_maps(alloc, rules, snapshot, frame);
@@ -118,24 +112,7 @@ fn find_forbidden(
             marks.add(&shown, rule);
         }
     }
-    Ok(marks)
-}
-
-/// Finds the squares of a piece that the rules forbid, on maps of the piece with so many squares more on each side.
-pub(crate) fn mark_on_maps(
-    alloc: Global,
-    rules: &[EdgeRule],
-    snapshot: &Snapshot,
-    piece: Rect,
-    frame: Frame,
-) -> Result<Marks, AllocError>
-    requires { IsRound frame piece (halo_of rules.now) }
-    ensures rect { IfOk result (λ marked. marked.rect ≡ piece) }
-    ensures marks { IfOk result (λ marked. (x y : ℕ) → marks marked x y
-        ≡ (holds piece x y && forbidden_by_any rules.now (copied_layout snapshot.now) x y)) }
-{
-    let found = find_forbidden(alloc, rules, snapshot, frame)?;
-    Marks::of(alloc, found.into_map(piece))
+    Marks::of(alloc, MarkMap::new(piece, frame, marks.marked))
 }
 
 /// Finds the rules that forbid some square of a rectangle, on maps of it with so many squares more on each side.

@@ -84,10 +84,7 @@ pub(crate) fn add_wide(
     ensures { (n : ℕ) → n + (count - 1) * places + 64 < 64 * length map.old → has_place map.new n
         ≡ (has_place map.old n || has_ahead (has_place narrow.old) places count n) }
 {
-    if count == 0 {
-        return;
-    }
-    if is_empty(narrow) {
+    if count == 0 || is_empty(narrow) {
         return;
     }
     let half = (count + 1) / 2;

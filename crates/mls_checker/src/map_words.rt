@@ -17,12 +17,7 @@ pub(crate) fn empty(map: &mut [u64])
 pub(crate) fn is_empty(map: &[u64]) -> bool
     ensures { IsTrue result → (row column : ℕ) → has_column map.now row column ≡ false }
 {
-    for columns in map {
-        if *columns != 0 {
-            return false;
-        }
-    }
-    true
+    map.iter().all(|columns| *columns == 0)
 }
 
 /// Makes of a map one of the places that it hasn't.

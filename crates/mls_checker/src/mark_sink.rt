@@ -37,9 +37,8 @@ impl MarkSink {
         ensures none { IfOk result (λ sink. (layout : Layout) (x y : ℕ)
             → with_unmarked sink.grid sink.check_plane sink.ok_types layout x y ≡ false) }
     {
-        let grid = Grid::new(alloc, rect)?;
         Ok(MarkSink {
-            grid,
+            grid: Grid::new(alloc, rect)?,
             check_plane: PlaneNumber::new(0),
             ok_types: KindSet::empty(),
             is_marked: true,

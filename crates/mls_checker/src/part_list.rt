@@ -4,7 +4,7 @@ ghost use Rattle.std.specs.Prelude.{◌≡◌, ◌∷◌, ◌++◌, [], false};
 use crate::Snapshot;
 use crate::scan::scan_tiles;
 use crate::tiles::{PartSink, Tile};
-use crate::violation_sink::ViolationSink;
+use crate::violation_sink::{ViolationSink, search_start};
 use mls_edgerule::EdgeRule;
 use mls_geom::{Area, Rect};
 use mls_kinds::KindSet;
@@ -45,18 +45,6 @@ impl PartList {
     pub fn is_full(&self) -> bool {
         self.areas.len() >= MOST_PARTS
     }
-
-    /// Adds an area, or notes that it is missing.
-    fn push(&mut self, area: Area)
-        ensures rect { self.new.rect ≡ self.old.rect }
-        ensures types { self.new.ok_types ≡ self.old.ok_types }
-        ensures added { self.new.is_short ≡ false → (self.old.is_short ≡ false)
-            × (self.new.areas.items ≡ self.old.areas.items ++ area ∷ []) }
-    {
-        if self.is_full() || self.areas.push(area).is_err() {
-            self.is_short = true;
-        }
-    }
 }
 
 impl PartSink for PartList {
@@ -73,8 +61,11 @@ impl PartSink for PartList {
 
     fn add_part(&mut self, part: &Tile, index: usize) {
         self.hint = index;
-        if !part.is_of(self.ok_types) {
-            self.push(part.area);
+        if part.is_of(self.ok_types) {
+            return;
+        }
+        if self.is_full() || self.areas.push(part.area).is_err() {
+            self.is_short = true;
         }
     }
 }
@@ -92,11 +83,7 @@ impl ViolationSink for PartList {
             return;
         }
         let part = area.common(self.rect.area());
-        let from = if rule.check_plane == rule.trigger_plane {
-            near
-        } else {
-            self.hint
-        };
+        let from = search_start(rule, near, self.hint);
         self.ok_types = rule.ok_types;
         scan_tiles(self, snapshot.tiles(rule.check_plane), part, from);
     }

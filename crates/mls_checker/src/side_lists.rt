@@ -38,18 +38,11 @@ pub(crate) fn find_sides(
 {
     let kept = direction.axis();
     for list in lists {
-        if is_of(list, plane, kept) {
+        if list.plane == plane && list.direction == kept {
             return Some(&list.sides);
         }
     }
     None
-}
-
-/// Whether the list has the sides of the plane in the direction.
-fn is_of(list: &SideList, plane: PlaneNumber, direction: Direction) -> bool
-    ensures { result ≡ true → (list.now.plane ≡ plane) × (list.now.direction ≡ direction) }
-{
-    list.plane == plane && list.direction == direction
 }
 
 /// Lists the sides that the rules look at, as far as there is memory. A scan finds those that aren't listed tile by
@@ -75,29 +68,17 @@ pub(crate) fn add_lists(
     requires { AreListsOf snapshot.now lists.old.items }
     ensures { AreListsOf snapshot.now lists.new.items }
 {
+    let plane = rule.trigger_plane;
     for direction in rule.directions.list() {
-        if find_sides(lists, rule.trigger_plane, *direction).is_none() {
-            add_list(lists, rule.trigger_plane, direction.axis(), snapshot)?;
+        if find_sides(lists, plane, *direction).is_none() {
+            let direction = direction.axis();
+            let sides = sides_of(snapshot.allocator(), snapshot.tiles(plane), direction)?;
+            lists.push(SideList {
+                plane,
+                direction,
+                sides,
+            })?;
         }
     }
-    Ok(())
-}
-
-/// Lists the sides of a plane in the direction.
-fn add_list(
-    lists: &mut Vec<SideList>,
-    plane: PlaneNumber,
-    direction: Direction,
-    snapshot: &Snapshot,
-) -> Result<(), AllocError>
-    requires { AreListsOf snapshot.now lists.old.items }
-    ensures { AreListsOf snapshot.now lists.new.items }
-{
-    let sides = sides_of(snapshot.allocator(), snapshot.tiles(plane), direction)?;
-    lists.push(SideList {
-        plane,
-        direction,
-        sides,
-    })?;
     Ok(())
 }

@@ -82,18 +82,11 @@ fn find_map(kept: &[TypeMap], plane: PlaneNumber, types: KindSet) -> Option<&[u6
         → IsTypeMap frame layout (record { plane = plane; types = types; map = map.now })) }
 {
     for one in kept {
-        if is_of(one, plane, types) {
+        if one.plane == plane && one.types == types {
             return Some(&one.map);
         }
     }
     None
-}
-
-/// Whether the map is that of a set of types of a plane.
-fn is_of(one: &TypeMap, plane: PlaneNumber, types: KindSet) -> bool
-    ensures { result ≡ true → (one.now.plane ≡ plane) × (one.now.types ≡ types) }
-{
-    one.plane == plane && one.types == types
 }
 
 /// What a snapshot shows in a frame, and maps of it that are kept.
@@ -196,12 +189,8 @@ fn keep_map(
     Ok(())
 }
 
-/// Whether no maps of kinds are to be kept: there are many maps, or some of the plane, the first of which are of its kinds.
-fn has_kinds(kept: &[TypeMap], plane: PlaneNumber) -> bool {
-    kept.len() >= MOST_MAPS || kept.iter().any(|one| one.plane == plane)
-}
-
-/// Keeps a map of each kind that a plane shows, if it is known which, unless maps of it are kept.
+/// Keeps a map of each kind that a plane shows, if it is known which, unless there are many maps, or some of the plane:
+/// the first of these are of its kinds.
 fn keep_kinds(
     kept: &mut Vec<TypeMap>,
     frame: Frame,
@@ -211,7 +200,7 @@ fn keep_kinds(
     requires { AreTypeMaps frame (copied_layout snapshot.now) kept.old.items }
     ensures { AreTypeMaps frame (copied_layout snapshot.now) kept.new.items }
 {
-    if has_kinds(kept, plane) {
+    if kept.len() >= MOST_MAPS || kept.iter().any(|one| one.plane == plane) {
         return Ok(());
     }
     let kinds = snapshot.kinds(plane).unwrap_or(KindSet::empty());

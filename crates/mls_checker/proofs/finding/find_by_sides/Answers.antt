@@ -20,7 +20,7 @@ loop-rule-preserved c =
     let layout = copied_layout c.args.snapshot.now in
     let area = c.around-area.result in
     let place = c.loop-rule.rule-index in
-    let more = c.scan_rule-more.ensures c.args.piece (forbidden_by_some (take place rules) layout area) (c.loop-rule.invariant.of_piece, c.loop-rule.invariant.marked) in
+    let more = c.scan_rule.ensures c.args.piece (forbidden_by_some (take place rules) layout area) (c.loop-rule.invariant.of_piece, c.loop-rule.invariant.marked) in
     let below : place < length rules = omega arith in
     record {
       legal = c.loop-rule.invariant.legal;

@@ -8,7 +8,7 @@ use Rattle.mls_geom.specs.World.{world}
 use Rattle.mls_geom.proofs.ShiftedSquares.{at}
 use Rattle.mls_checker.specs.Copies.{copied_layout}
 use Rattle.mls_checker.specs.Forbids.{forbids}
-use Rattle.mls_checker.proofs.KnownKinds.{and-false}
+use Rattle.std.proofs.lemmas.Bool.{and_right}
 use Rattle.mls_checker.proofs.idle.are_idle.Goals as goal
 
 pub loop-rule-preserved : goal.loop-rule-preserved
@@ -24,4 +24,4 @@ pub returns : goal.returns
 returns c _ x y =
     let rules = c.args.rules.now in
     let test : EdgeRule → Bool = λ rule. forbids rule (copied_layout c.args.snapshot.now) (at x y) in
-    and-false (holds world x y) (list_any test rules) (rw (take_all c.loop-rule.rule-index rules (omega arith)) at c.loop-rule.invariant (at x y))
+    and_right (holds world x y) (list_any test rules) (rw (take_all c.loop-rule.rule-index rules (omega arith)) at c.loop-rule.invariant (at x y))

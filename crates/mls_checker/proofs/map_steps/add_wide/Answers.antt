@@ -3,6 +3,7 @@ use Rattle.std.proofs.Math.Bool.{or-false}
 use Rattle.mls_checker.specs.Maps.{has_ahead, has_place}
 use Rattle.mls_checker.proofs.MapSteps.{none-ahead, widened-into}
 use Rattle.mls_checker.proofs.map_steps.add_wide.Goals as goal
+use Rattle.mls_checker.proofs.map_steps.add_wide.Goals.{then-count-eq0-via-then-count-eq0, then-count-eq0-via-else-count-eq0+then-is_empty}
 
 pub returns : goal.returns
 returns c n within =
@@ -14,9 +15,9 @@ returns c n within =
 
 pub returns-then-count-eq0 : goal.returns-then-count-eq0
 returns-then-count-eq0 c n within =
-    sym (or-false (has_place c.args.map.now n)) ∙ ap (λ k. has_place c.args.map.now n || has_ahead (has_place c.args.narrow.now) c.args.places k n) (sym c.if-count-eq0.true)
-
-pub returns-then-is_empty : goal.returns-then-is_empty
-returns-then-is_empty c n within =
-    let none = none-ahead (has_place c.args.narrow.now) c.args.places c.args.count n (λ m. c.is_empty.ensures c.if-is_empty.true (m / 64) (m % 64)) in
-    sym (or-false (has_place c.args.map.now n)) ∙ ap (λ b. has_place c.args.map.now n || b) (sym none)
+    let old = has_place c.args.map.now n in
+    sym (or-false old) ∙ elim c.then-count-eq0.branch [
+      | then-count-eq0-via-then-count-eq0 w ↦ ap (λ k. old || has_ahead (has_place c.args.narrow.now) c.args.places k n) (sym w.if-count-eq0.true)
+      | then-count-eq0-via-else-count-eq0+then-is_empty w ↦ ap (λ b. old || b)
+          (sym (none-ahead (has_place c.args.narrow.now) c.args.places c.args.count n (λ m. w.is_empty.ensures w.if-is_empty.true (m / 64) (m % 64))))
+    ]

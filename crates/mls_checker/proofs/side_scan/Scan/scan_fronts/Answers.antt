@@ -10,8 +10,8 @@ loop-index-init g c =
     let rule = c.args.self.now.rule.now in
     fronts_none g.S.ViolationSink.represents rule (copied_layout c.args.self.now.snapshot.now) (plane_of c.args.self.now.snapshot.now rule.trigger_plane).tiles c.args.self.now.area c.args.self.now.direction c.args.sink.now
 
-pub scan_front-more-requires-clause-listed : goal.scan_front-more-requires-clause-listed
-scan_front-more-requires-clause-listed g c =
+pub scan_front-requires-clause-listed : goal.scan_front-requires-clause-listed
+scan_front-requires-clause-listed g c =
     let items : c.as_slice-tiles.result.now ≡ (plane_of c.args.self.now.snapshot.now c.args.self.now.rule.now.trigger_plane).tiles = c.as_slice-tiles.ensures ∙ c.tiles.ensures.value in
     omega (arith, ap length items)
 
@@ -23,8 +23,8 @@ loop-index-preserved g c =
     let index = c.loop-index.index in
     let within : index < length tiles = omega (arith, ap length items) in
     let tile = get_or tiles index (space_in outer) in
-    fronts_more g.S.ViolationSink.represents rule (copied_layout c.args.self.now.snapshot.now) tiles c.args.self.now.area c.args.self.now.direction index tile c.args.sink.now c.loop-index.sink c.scan_front-more.new.sink
-    c.scan_front-more.ensures.tiles within (get_or_default tiles index (space_in outer) tile within) c.loop-index.invariant c.scan_front-more.ensures.gains
+    fronts_more g.S.ViolationSink.represents rule (copied_layout c.args.self.now.snapshot.now) tiles c.args.self.now.area c.args.self.now.direction index tile c.args.sink.now c.loop-index.sink c.scan_front.new.sink
+    c.scan_front.ensures.tiles within (get_or_default tiles index (space_in outer) tile within) c.loop-index.invariant c.scan_front.ensures.gains
 
 pub returns : goal.returns
 returns g c =

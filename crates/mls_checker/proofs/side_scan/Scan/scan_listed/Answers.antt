@@ -1,16 +1,14 @@
-use Rattle.std.proofs.Common.{ℕ, ◌+◌, ◌&&◌, Bool, List, map, take, sym, subst, ap, ◌∙◌, arith}
+use Rattle.std.proofs.Common.{ℕ, Bool, List, map, take, subst, ap, ◌∙◌, arith}
 use Rattle.std.specs.List.{list_any}
 use Rattle.std.proofs.lemmas.List.{take_all}
 use Rattle.mls_checker.specs.Copies.{copied_layout, plane_of}
 use Rattle.mls_checker.specs.Marking.{GainsDisallowed}
 use Rattle.mls_checker.specs.Tiles.{outer}
-use Rattle.mls_checker.specs.Sides.{Side, faced, reaches_from, side_reaches, sides_reach}
+use Rattle.mls_checker.specs.Sides.{Side, faced, reaches_from, sides_reach}
 use Rattle.mls_geom.specs.Directions.{axis}
-use Rattle.mls_geom.specs.Rects.{common}
 use Rattle.mls_checker.proofs.FacedSides.{list_any-mapped, listed-IsSide}
-use Rattle.mls_checker.proofs.Gathering.{gains_more, gains_nothing, gains_same}
+use Rattle.mls_checker.proofs.Gathering.{gains_more, gains_same}
 use Rattle.mls_checker.proofs.side_scan.Scan.scan_listed.Goals as goal
-use Rattle.mls_checker.proofs.side_scan.Scan.scan_listed.Goals.{then-has_edges_along, else-has_edges_along}
 
 pub loop-side-preserved : goal.loop-side-preserved
 loop-side-preserved g c =
@@ -21,18 +19,8 @@ loop-side-preserved g c =
     let area = c.args.self.now.area in
     let test : ℕ → ℕ → Side → Bool = λ u v side. reaches_from rule tiles area direction u v (faced direction side) in
     let side = c.side-item.result in
-    elim c.if-has_edges_along.branch [
-      | then-has_edges_along w ↦ subst (λ (s : g.row.S.Denot). GainsDisallowed g.S.ViolationSink.represents rule layout (λ u v. list_any (test u v) (take (c.loop-side.side-index + 1) c.args.sides.now)) c.args.sink.now s) (sym w.sink-is)
-          (gains_more g.S.ViolationSink.represents rule layout test c.args.sides.now c.loop-side.side-index side c.args.sink.now c.loop-side.sink w.add_edges.new.sink
-          c.loop-side-test.true c.loop-side.invariant
-          (subst (λ (s : Side). GainsDisallowed g.S.ViolationSink.represents rule layout (λ u v. test u v s) c.loop-side.sink w.add_edges.new.sink) c.side-item.is w.add_edges.ensures))
-      | else-has_edges_along w ↦ subst (λ (s : g.row.S.Denot). GainsDisallowed g.S.ViolationSink.represents rule layout (λ u v. list_any (test u v) (take (c.loop-side.side-index + 1) c.args.sides.now)) c.args.sink.now s) (sym w.sink-is)
-          (gains_more g.S.ViolationSink.represents rule layout test c.args.sides.now c.loop-side.side-index side c.args.sink.now c.loop-side.sink c.loop-side.sink
-          c.loop-side-test.true c.loop-side.invariant
-          (subst (λ (s : Side). GainsDisallowed g.S.ViolationSink.represents rule layout (λ u v. test u v s) c.loop-side.sink c.loop-side.sink) c.side-item.is
-          (gains_nothing g.S.ViolationSink.represents rule layout (λ u v. test u v side) c.loop-side.sink
-          (λ u v. ap (λ b. b && side_reaches rule tiles direction (common (faced direction side).area area) u v) (sym c.has_edges_along.ensures ∙ w.if-has_edges_along.false)))))
-    ]
+    gains_more g.S.ViolationSink.represents rule layout test c.args.sides.now c.loop-side.side-index side c.args.sink.now c.loop-side.sink c.scan_side.new.sink c.loop-side-test.true
+    c.loop-side.invariant (subst (λ (s : Side). GainsDisallowed g.S.ViolationSink.represents rule layout (λ u v. test u v s) c.loop-side.sink c.scan_side.new.sink) c.side-item.is c.scan_side.ensures)
 
 pub returns : goal.returns
 returns g c =
@@ -48,8 +36,8 @@ returns g c =
     ∙ list_any-mapped (reaches_from rule tiles area direction u v) (faced direction) sides)
     c.loop-side.invariant
 
-pub add_edges-requires-clause-side : goal.add_edges-requires-clause-side
-add_edges-requires-clause-side g c =
+pub scan_side-requires-clause-side : goal.scan_side-requires-clause-side
+scan_side-requires-clause-side g c =
     let direction = c.args.self.now.direction in
     let plane = plane_of c.args.self.now.snapshot.now c.args.self.now.rule.now.trigger_plane in
     let picture = copied_layout c.args.self.now.snapshot.now c.args.self.now.rule.now.trigger_plane in

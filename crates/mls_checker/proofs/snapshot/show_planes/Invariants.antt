@@ -3,7 +3,7 @@ use Rattle.std.proofs.Common.{◌≡◌, ℕ, ◌<◌}
 use Rattle.mls_layout.specs.Uses.{flat_layout}
 use Rattle.mls_checker.specs.FlatZones.{planes_layout}
 use Rattle.mls_checker.specs.ZoneLayouts.{within}
-use Rattle.mls_checker.proofs.zone_planes.show_planes.Given as goal
+use Rattle.mls_checker.proofs.snapshot.show_planes.Given as goal
 
 abbrev pub invariant-loop-index : goal.invariant-loop-index
 invariant-loop-index l = record {

@@ -2,7 +2,7 @@ use Rattle.std.proofs.Common.{below_more, refl, ap, ◌∙◌, arith}
 use Rattle.std.proofs.lemmas.Bool.{false≢true}
 use Rattle.mls_geom.specs.Layouts.{Layout}
 use Rattle.mls_checker.proofs.FlatPlanes.{copy-at, flat-by_copies}
-use Rattle.mls_checker.proofs.zone_planes.show_planes.Goals as goal
+use Rattle.mls_checker.proofs.snapshot.show_planes.Goals as goal
 
 pub returns-then-not-is_shown-clause-same : goal.returns-then-not-is_shown-clause-same
 returns-then-not-is_shown-clause-same c =

@@ -2,7 +2,7 @@ use Rattle.std.proofs.Common.{◌≡◌, ℕ, ◌≤◌, drop, length}
 use Rattle.mls_edgerule.specs.Halos.{halo_of}
 use Rattle.mls_checker.specs.Copies.{copied_layout}
 use Rattle.mls_checker.specs.Maps.{HasDeep, forbidden_by_any}
-use Rattle.mls_checker.proofs.map_marks.find_forbidden.Given as goal
+use Rattle.mls_checker.proofs.map_marks.mark_on_maps.Given as goal
 
 -- the squares are marked that the rules from this one on forbid
 abbrev pub invariant-rules : goal.invariant-rules
