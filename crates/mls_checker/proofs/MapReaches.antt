@@ -300,20 +300,24 @@ level_at maps frame count home n direction = is_level direction && row_begins ma
 abbrev upright_at : TypeMaps → Frame → ℕ → ℕ → ℕ → Direction → Bool
 upright_at maps frame count home n direction = not (is_level direction) && row_begins maps.before maps.behind frame count home n direction
 
+-- the blocks of edges in the direction are laid on this flank; where corner types are types2, one of two directions lays those that both have
 abbrev is_kept : Bool → Direction → Direction → Bool
 is_kept same direction flank = not (same && comes_first flank direction)
 
-abbrev block_at : TypeMaps → Frame → ℕ → ℕ → ℕ → Direction → Direction → Bool
-block_at maps frame count home n direction flank =
+-- a corner block of an edge in the direction, on the flank, has the square of place n: it begins at a place so many columns and rows on
+abbrev corner_block_at : TypeMaps → Frame → ℕ → ℕ → ℕ → Direction → Direction → Bool
+corner_block_at maps frame count home n direction flank =
     list_any (λ a. list_any (λ b. corner_begins maps.before maps.behind maps.beside frame count home (n + a * 1 + b * (64 * frame.words)) direction flank) (range_with_len 0 count)) (range_with_len 0 count)
 
-abbrev kept_at : TypeMaps → Frame → Bool → ℕ → ℕ → ℕ → Direction → Direction → Bool
-kept_at maps frame same count home n direction flank =
+-- the same, where the blocks are laid on this flank
+abbrev kept_block_at : TypeMaps → Frame → Bool → ℕ → ℕ → ℕ → Direction → Direction → Bool
+kept_block_at maps frame same count home n direction flank =
     list_any (λ a. list_any (λ b. is_kept same direction flank && corner_begins maps.before maps.behind maps.beside frame count home (n + a * 1 + b * (64 * frame.words)) direction flank)
     (range_with_len 0 count)) (range_with_len 0 count)
 
-abbrev blocks_at : TypeMaps → Frame → Bool → ℕ → ℕ → ℕ → Direction → Bool
-blocks_at maps frame same count home n direction = list_any (kept_at maps frame same count home n direction) (across direction)
+-- the same, on either flank of the direction
+abbrev kept_blocks_at : TypeMaps → Frame → Bool → ℕ → ℕ → ℕ → Direction → Bool
+kept_blocks_at maps frame same count home n direction = list_any (kept_block_at maps frame same count home n direction) (across direction)
 
 when-block : (t : Bool) (f : ℕ → ℕ → Bool) (count : ℕ) (b : Bool) → list_any (λ i. list_any (λ j. f i j) (range_with_len 0 count)) (range_with_len 0 count) ≡ b
     → list_any (λ i. list_any (λ j. t && f i j) (range_with_len 0 count)) (range_with_len 0 count) ≡ (t && b)
@@ -322,7 +326,7 @@ when-block false f count b is = list_any_same (λ i. list_any (λ j. false) (ran
 
 -- the blocks of an upright direction, whose steps and flanks change places
 crossed : (maps : TypeMaps) (frame : Frame) (count home n : ℕ) (direction flank : Direction)
-    → block_at maps frame count home n direction flank
+    → corner_block_at maps frame count home n direction flank
     ≡ list_any (λ b. list_any (λ a. corner_begins maps.before maps.behind maps.beside frame count home (n + b * (64 * frame.words) + a * 1) direction flank) (range_with_len 0 count)) (range_with_len 0 count)
 crossed maps frame count home n direction flank =
     any-swap (λ a b. corner_begins maps.before maps.behind maps.beside frame count home (n + a * 1 + b * (64 * frame.words)) direction flank) (range_with_len 0 count) (range_with_len 0 count)
@@ -335,9 +339,9 @@ crossed maps frame count home n direction flank =
 
 -- the blocks of a direction, to its two flanks
 kept-pair : (rule : EdgeRule) (layout : Layout) (maps : TypeMaps) (frame : Frame) (same : Bool) (home n x y : ℕ) (direction flank flank' : Direction)
-    → block_at maps frame rule.corner_distance home n direction flank ≡ in_block rule layout direction (square x y) flank
-    → block_at maps frame rule.corner_distance home n direction flank' ≡ in_block rule layout direction (square x y) flank'
-    → list_any (kept_at maps frame same rule.corner_distance home n direction) (flank ∷ flank' ∷ [])
+    → corner_block_at maps frame rule.corner_distance home n direction flank ≡ in_block rule layout direction (square x y) flank
+    → corner_block_at maps frame rule.corner_distance home n direction flank' ≡ in_block rule layout direction (square x y) flank'
+    → list_any (kept_block_at maps frame same rule.corner_distance home n direction) (flank ∷ flank' ∷ [])
     ≡ list_any (λ side. is_kept same direction side && in_block rule layout direction (square x y) side) (flank ∷ flank' ∷ [])
 kept-pair rule layout maps frame same home n x y direction flank flank' one other =
     let begins = λ (side : Direction) (a b : ℕ). corner_begins maps.before maps.behind maps.beside frame rule.corner_distance home (n + a * 1 + b * (64 * frame.words)) direction side in
@@ -346,7 +350,7 @@ kept-pair rule layout maps frame same home n x y direction flank flank' one othe
 direction-found : (rule : EdgeRule) (layout : Layout) (maps : TypeMaps) (frame : Frame) (same : Bool) (h n x y : ℕ) (direction : Direction)
     → IsFrame frame → maps.frame ≡ frame → ShowTypes rule layout maps → rule.distance < h → rule.corner_distance < h → IsDeep frame h x y → n + h * (64 * frame.words) ≡ place_of frame x y
     → ((list_any (λ i. level_at maps frame rule.distance (h * (64 * frame.words)) (n + i * 1) direction) (range_with_len 0 rule.distance)
-    || blocks_at maps frame same rule.corner_distance (h * (64 * frame.words)) n direction)
+    || kept_blocks_at maps frame same rule.corner_distance (h * (64 * frame.words)) n direction)
     || list_any (λ i. upright_at maps frame rule.distance (h * (64 * frame.words)) (n + i * (64 * frame.words)) direction) (range_with_len 0 rule.distance))
     ≡ (in_row rule layout direction (square x y) || list_any (λ flank. is_kept same direction flank && in_block rule layout direction (square x y) flank) (across direction))
 direction-found rule layout maps frame same h n x y Right is same_frame types far far' deep ends =
@@ -509,7 +513,7 @@ reach-found rule layout maps frame same level upright blocks new home x y is sam
     let all : h - 1 ≡ m = omega arith in
     let whole : (h - 1) * (row + 1) ≡ m * (row + 1) = ap (λ k. k * (row + 1)) all in
     let rD : Direction → Bool = λ direction. list_any (λ i. level_at maps frame d home (n + i * 1) direction) (range_with_len 0 d) in
-    let bD : Direction → Bool = λ direction. blocks_at maps frame same c home n direction in
+    let bD : Direction → Bool = λ direction. kept_blocks_at maps frame same c home n direction in
     let uD : Direction → Bool = λ direction. list_any (λ i. upright_at maps frame d home (n + i * row) direction) (range_with_len 0 d) in
     let rows : has_ahead (has_place level) 1 d n ≡ list_any rD ds =
     list_any_same_in_range (λ i. has_place level (n + i * 1)) (λ i. list_any (λ direction. level_at maps frame d home (n + i * 1) direction) ds) 0 d
