@@ -24,7 +24,8 @@ use mls_library::Cell;
 use mls_paint::find_meeting;
 use mls_stitch::{LaidTile, Plane};
 
-/// Returns whether what the uses show has the zone's likeness on each plane.
+/// Returns whether what the uses show has the zone's likeness on each plane. Looks first at the use that was the last
+/// one without: of twenty cells over one another it is often the same.
 pub(crate) fn uses_are_alike(uses: &Uses<'_>, zone: &AlikeZone, workspace: &mut Workspace) -> bool
     requires cells { IsHome workspace.old.pool uses.now.library.now }
     requires near { zone.now.halo ≤ 256 }
@@ -32,8 +33,25 @@ pub(crate) fn uses_are_alike(uses: &Uses<'_>, zone: &AlikeZone, workspace: &mut 
         (uses_layout (cell_layouts workspace.old.pool uses.now.library.now) uses.now.list.now plane) }
     ensures pool { workspace.new.pool ≡ workspace.old.pool }
 {
-    for cell_use in uses.list {
+    if let Some(cell_use) = uses.list.get(workspace.doubtful) {
         if !use_is_alike(uses, cell_use, zone, workspace) {
+            return false;
+        }
+    }
+    each_is_alike(uses, zone, workspace)
+}
+
+/// Returns whether what each use shows has the zone's likeness on each plane, and notes the first one without.
+fn each_is_alike(uses: &Uses<'_>, zone: &AlikeZone, workspace: &mut Workspace) -> bool
+    requires cells { IsHome workspace.old.pool uses.now.library.now }
+    requires near { zone.now.halo ≤ 256 }
+    ensures alike { IsTrue result → (plane : ℕ) → ShowsAlike zone.now.likeness zone.now.halo zone.now.rect
+        (uses_layout (cell_layouts workspace.old.pool uses.now.library.now) uses.now.list.now plane) }
+    ensures pool { workspace.new.pool ≡ workspace.old.pool }
+{
+    for (index, cell_use) in uses.list.iter().enumerate() {
+        if !use_is_alike(uses, cell_use, zone, workspace) {
+            workspace.doubtful = index;
             return false;
         }
     }

@@ -38,6 +38,8 @@ pub struct Workspace {
     pub pieces: Vec<Piece>,
     /// The squares of a part of a layout, where cells are placed in it.
     pub grid: KindGrid,
+    /// The index of the use that last wasn't alike, which is looked at first.
+    pub(crate) doubtful: usize,
     ghost rooms: { HasRooms scratch (vec_capacity pieces) },
 }
 
@@ -49,6 +51,7 @@ impl Drop for Workspace {
             scratch: _scratch,
             pieces: _pieces,
             grid: _grid,
+            doubtful: _doubtful,
         } = self;
     }
 }
@@ -65,6 +68,7 @@ impl Workspace {
         Ok(Workspace {
             pieces: Vec::with_capacity(alloc, MARK_ROOM)?,
             grid: KindGrid::new(alloc)?,
+            doubtful: 0,
             pool: Pool::new(alloc, capacity)?,
             scratch: Scratch::new(alloc, TILE_ROOM, PIECE_ROOM)?,
         })
