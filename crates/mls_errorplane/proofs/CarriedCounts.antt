@@ -23,7 +23,7 @@ use Rattle.mls_layout.specs.declared.likeness.Likeness.TheVariants.{OneKind, Col
 use Rattle.mls_errorplane.proofs.PartCounts.{tile_count-above, tile_count-found}
 
 -- what holds of a number, if there is one, leads to what follows from it
-pub IfSome-leads : {P Q : ℕ → Type 0} (at : Option ℕ) → ((n : ℕ) → P n → Q n) → IfSome at P → IfSome at Q
+pub IfSome-leads : {X : Type 0} {P Q : X → Type 0} (at : Option X) → ((x : X) → P x → Q x) → IfSome at P → IfSome at Q
 IfSome-leads None leads is = is
 IfSome-leads (Some n) leads is = leads n is
 

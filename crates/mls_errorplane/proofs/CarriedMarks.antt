@@ -250,6 +250,7 @@ AreRightIn-kept rules layout old new rect checked right elsewhere before = (
   AreRight-kept rules layout old new rect checked.last right elsewhere before.0,
   AreRight-kept rules layout old new rect checked.row right elsewhere before.1,
   AreRight-kept rules layout old new rect checked.block right elsewhere before.2,
+  AreRight-kept rules layout old new rect checked.largest right elsewhere before.3,
 )
 
 -- few tiles on the way are few afterwards

@@ -4,6 +4,7 @@ use Rattle.std.specs.Option.{IsSomeAnd}
 use Rattle.std.proofs.lemmas.Bool.{and_from, and_right, cases_lt, cond-false, cond-true, le-ltb, or_from, or_left, or_right}
 use Rattle.std.proofs.lemmas.Bool.Decides.{nat_tests}
 use Rattle.mls_geom.specs.Rects.{Rect, IsRectangleIn, has_squares, holds}
+use Rattle.mls_geom.specs.World.{world}
 use Rattle.mls_geom.proofs.Holds.{holds_between}
 use Rattle.mls_errorplane.specs.DirtyLists.{dropped, first_piece_of, piece_of, piece_side, rest_above, rest_beside}
 use Rattle.mls_errorplane.specs.Stretches.{DropsAll, DropsIn, DropsTo, Stair, Takes, in_stair}
@@ -172,6 +173,26 @@ row-DropsAll rect area rest count wide tall low fits left right below above =
           (row-DropsTo rect area (area ∷ rest) rest zero count wide tall low fits (omega (arith, left)) (omega (arith, right)) (omega (arith, below)) (omega (arith, above)) none),
       λ x y here. let lines = holds_between rect x y here in left_of (cut_at area column) x y (omega (arith, right, lines.1)) (omega (arith, above, lines.3)),
     )
+
+-- ---- the first piece alone
+first-DropsAll : (first : Rect) (rest : List Rect) → first.left < first.right → first.bottom < first.top → DropsAll (piece_of first) 1 (first ∷ rest) (dropped (first ∷ rest))
+first-DropsAll first rest wide tall =
+    let piece = piece_of first in
+    let none : DropsTo piece (cut_at piece first.left) 0 (first ∷ rest) (first ∷ rest) =
+    (refl, λ x y here. let lines = holds_between piece x y here in beyond (cut_at piece first.left) x y lines.0 lines.2) in (
+      cut_at piece piece.right,
+      DropsTo-more piece piece 0 (first ∷ rest) first rest refl refl
+          (record { left_in = omega arith; wide = omega (arith, wide); right_in = omega arith; bottom_in = omega arith; tall = omega (arith, tall); top_in = omega arith }) none,
+      λ x y here. let lines = holds_between piece x y here in left_of (cut_at piece piece.right) x y lines.1 lines.3,
+    )
+
+pub first_piece-DropsAll : (areas : List Rect) (piece : Rect) → Some piece ≡ first_piece_of areas → IsRectangleIn world piece → DropsAll piece 1 areas (dropped areas)
+first_piece-DropsAll [] piece is legal = absurd (cc is)
+first_piece-DropsAll (first ∷ rest) piece is legal =
+    let same : piece ≡ piece_of first = cc is in
+    let wide : first.left < first.right = omega (arith, legal.wide, ap (λ (r : Rect). r.left) same, ap (λ (r : Rect). r.right) same) in
+    let tall : first.bottom < first.top = omega (arith, legal.tall, ap (λ (r : Rect). r.bottom) same, ap (λ (r : Rect). r.top) same) in
+    subst (λ (e : Rect). DropsAll e 1 (first ∷ rest) (dropped (first ∷ rest))) (sym same) (first-DropsAll first rest wide tall)
 
 -- ---- whole rows of pieces
 -- the area from a row on

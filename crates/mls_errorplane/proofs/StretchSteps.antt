@@ -6,9 +6,9 @@ use Rattle.std.proofs.lemmas.Bool.{cases_Bool, cond-false, cond-true}
 use Rattle.mls_edgerule.specs.declared.edge_rule.EdgeRule.{EdgeRule}
 use Rattle.mls_geom.specs.Layouts.{Layout}
 use Rattle.mls_geom.specs.Pictures.{Picture}
-use Rattle.mls_geom.specs.Rects.{Rect, IsRectangleIn, IsWithin, holds, joined}
+use Rattle.mls_geom.specs.Rects.{Rect, IsRectangleIn, holds, joined}
 use Rattle.mls_geom.specs.World.{world}
-use Rattle.mls_geom.proofs.Holds.{between_holds, holds-IsWithin, holds_between}
+use Rattle.mls_geom.proofs.Holds.{between_holds, holds_between}
 use Rattle.mls_geom.proofs.JoinedRects.{holds-joined_one, holds-joined_other, joined-IsRectangleIn}
 use Rattle.mls_tilepool.specs.Pools.{Pool}
 use Rattle.mls_paint.specs.Planes.{HasStrips, picture_in}
@@ -152,12 +152,6 @@ AreRight-alike rules layout picture likeness from rect legal legal' tells alike 
     (sym (like_column-again likeness both from x)) (sym (like_row-again likeness both from y))
     (holds-joined_other from rect x y here) (holds-joined_one from rect column row (tells x y here)) (right column row (tells x y here))
 
--- marks that are right in a rectangle are right in what it encloses
-pub AreRight-within :
-    (rules : List EdgeRule) (layout : Layout) (marks : SquareSet) (outer rect : Rect) → IsWithin outer rect → AreRight rules layout marks outer
-    → AreRight rules layout marks rect
-AreRight-within rules layout marks outer rect within right x y here = right x y (holds-IsWithin outer rect x y within here)
-
 -- marks that are right in some pieces stay so in a step that is done, and in its piece they are
 Done-keeps :
     (rules : List EdgeRule) (layout : Layout) (old new : Checking) (rect : Rect) → new ≡ check_step rules layout old → AreRight rules layout old.marks rect
@@ -173,6 +167,7 @@ Done-AreRightIn rules layout old new (Some checked) is right = (
   Done-keeps rules layout old new checked.last is right.0,
   Done-keeps rules layout old new checked.row is right.1,
   Done-keeps rules layout old new checked.block is right.2,
+  Done-keeps rules layout old new checked.largest is right.3,
 )
 
 -- and so it is after a finding that was finished

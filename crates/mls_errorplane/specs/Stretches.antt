@@ -67,9 +67,16 @@ Tells likeness from rect = (x y : ℕ) → holds rect x y ≡ true → holds fro
 abbrev pub AreRight : List EdgeRule → Layout → SquareSet → Rect → Type 0
 AreRight rules layout marks rect = (x y : ℕ) → holds rect x y ≡ true → marks x y ≡ forbidden rules layout x y
 
--- they are so in all three rectangles
+-- they are so in all four rectangles
 abbrev pub AreRightIn : List EdgeRule → Layout → SquareSet → Checked → Type 0
 AreRightIn rules layout marks checked = AreRight rules layout marks checked.last × AreRight rules layout marks checked.row × AreRight rules layout marks checked.block
+    × AreRight rules layout marks checked.largest
+
+-- the pieces of the stretch are the next ones of the old list, which is the new one without them, and where the marks are right in checked pieces, they are so in these
+pub record DropsKnown (checked : Checked) (old new : List Rect) (stretch : Stretch) : Type 0 where
+  pub some : 0 < stretch.pieces
+  pub drops : DropsAll stretch.rect stretch.pieces old new
+  pub right : (rules : List EdgeRule) (layout : Layout) (marks : SquareSet) → AreRightIn rules layout marks checked → AreRight rules layout marks stretch.rect
 
 -- the marks are within the limit that a stretch is tried with, and right in the pieces that were checked last
 pub record AreSound (rules : List EdgeRule) (layout : Layout) (trial : Trial) (marks : SquareSet) : Type 0 where

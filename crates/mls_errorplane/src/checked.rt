@@ -22,6 +22,8 @@ pub struct Checked {
     pub row: Rect,
     /// Rows that were checked one above another, and have the same columns.
     pub block: Rect,
+    /// The one of all blocks that has the most squares.
+    pub largest: Rect,
 }
 
 /// Checked pieces whose marks others have too, if each plane has a likeness in both together.
@@ -62,6 +64,7 @@ impl Checked {
                 last: rect,
                 row: rect,
                 block: rect,
+                largest: rect,
             },
         }
     }
@@ -73,11 +76,21 @@ impl Checked {
             → AreRightIn rules layout marks result }
     {
         let row = row_with(self.row, rect);
+        let block = block_with(self.block, row);
         Checked {
             last: rect,
             row,
-            block: block_with(self.block, row),
+            block,
+            largest: larger(self.largest, block),
         }
+    }
+
+    /// Returns whether the rectangle lies in a block of checked pieces.
+    pub(crate) fn encloses(&self, rect: Rect) -> bool
+        ensures { IsTrue result → (rules : List EdgeRule) (layout : Layout) (marks : SquareSet)
+            → AreRightIn rules layout marks self.now → AreRight rules layout marks rect }
+    {
+        self.block.encloses(rect) || self.largest.encloses(rect)
     }
 
     /// Returns the pieces whose marks those of the rectangle have, if each plane shows bars in both together: the last
@@ -155,4 +168,15 @@ fn block_with(block: Rect, row: Rect) -> Rect
         return block;
     }
     block.joined(row)
+}
+
+/// Returns the one of two blocks that has more squares.
+fn larger(one: Rect, other: Rect) -> Rect
+    ensures { (rules : List EdgeRule) (layout : Layout) (marks : SquareSet) → AreRight rules layout marks one
+        → AreRight rules layout marks other → AreRight rules layout marks result }
+{
+    if one.area().size() < other.area().size() {
+        return other;
+    }
+    one
 }

@@ -1,13 +1,14 @@
 //! The list of the areas of a layout that await checking.
-ghost use Rattle.std.specs.Prelude.{◌≡◌, ◌==◌, ◌<◌, ◌≤◌, [], IfOk, IfSome, length};
+ghost use Rattle.std.specs.Prelude.{◌≡◌, ◌==◌, ◌<◌, ◌≤◌, [], IfNone, IfOk, IfSome, length};
 ghost use Rattle.std.specs.VecDeque.{deque_capacity, deque_len};
 ghost use Rattle.mls_geom.specs.Rects.{IsRectangleIn, joined};
 ghost use Rattle.mls_geom.specs.World.{world};
 ghost use Rattle.mls_errorplane.specs.MarkPlanes.{most_pieces};
 ghost use Rattle.mls_errorplane.specs.DirtyLists as spec;
 ghost use Rattle.mls_errorplane.specs.DirtyLists.{IsDirtyList, added, dropped, first_piece_of, united, zone_round};
-ghost use Rattle.mls_errorplane.specs.Stretches.{DropsAll, IsNext, with_rest};
+ghost use Rattle.mls_errorplane.specs.Stretches.{DropsAll, DropsKnown, IsNext, with_rest};
 
+use crate::checked::Checked;
 use crate::stretch::Stretch;
 use mls_geom::Rect;
 use mls_layout::MARK_ROOM;
@@ -103,6 +104,24 @@ impl Dirty {
         replace_first(&mut self.areas, stretch.rest);
     }
 
+    /// Takes the first piece out of the list, and returns it, where it lies in a block of checked pieces.
+    pub(crate) fn drop_known(&mut self, checked: &Checked) -> Option<Stretch>
+        ensures known { IfSome result (DropsKnown checked.now self.old self.new) }
+        ensures none { IfNone result (self.new ≡ self.old) }
+        ensures kept { IsDirtyList self.old }
+    {
+        let piece = self.first_piece()?;
+        if !checked.encloses(piece) {
+            return None;
+        }
+        self.drop_piece();
+        Some(Stretch {
+            rect: piece,
+            pieces: 1,
+            rest: self.areas.front().copied(),
+        })
+    }
+
     /// Copies the areas, in their order.
     pub fn to_vec(&self, alloc: Global) -> Result<Vec<Rect>, AllocError>
         ensures { IfOk result (λ areas. areas.items ≡ self.now) }
@@ -149,7 +168,7 @@ fn zone_round(rect: Rect, halo: u32) -> Rect
 
 /// Returns the lower-left part of an area that is checked at once.
 #[tactic(auto, using(crate::proofs::AreaSizes::few_pieces))]
-fn piece_of(area: Rect) -> Rect
+pub(crate) fn piece_of(area: Rect) -> Rect
     ensures value { result ≡ spec.piece_of area }
     ensures legal { IsRectangleIn world result }
     ensures few { most_pieces result ≤ MARK_ROOM }

@@ -11,7 +11,7 @@ ghost use Rattle.mls_errorplane.specs.ErrorPlanes.{HasMarks, ShowsMarks, StandsA
 ghost use Rattle.mls_errorplane.specs.Stretches.{AreRight, AreRightIn, AreSound, DropsAll, IsAlike, Tells};
 
 use crate::checked::{Checked, Source};
-use crate::dirty::lies_in_world;
+use crate::dirty::{lies_in_world, piece_of};
 use crate::expecting::expected_alike;
 use crate::stretch::Stretch;
 use crate::{CheckContext, ErrorPlane};
@@ -43,10 +43,12 @@ fn next_most(stretch: &Stretch, most: u32, before: u32, expected: u32) -> u32
     expected.max(others)
 }
 
-/// Returns how many pieces or rows of the rest of an area are expected to be alike, if there is a rest.
+/// Returns how many pieces or rows of the rest of an area are expected to be alike: none where there is no rest, or it
+/// begins in a block of checked pieces.
 fn expected_of(
     planes: &[Plane],
     context: &CheckContext<'_>,
+    checked: &Checked,
     rest: Option<Rect>,
     workspace: &mut Workspace,
 ) -> u32
@@ -54,8 +56,10 @@ fn expected_of(
     ensures { workspace.new.pool ≡ workspace.old.pool }
 {
     match rest {
-        Some(area) => expected_alike(planes, context, area, workspace),
-        None => 0,
+        Some(area) if !checked.encloses(piece_of(area)) => {
+            expected_alike(planes, context, area, workspace)
+        }
+        _ => 0,
     }
 }
 
@@ -178,7 +182,7 @@ impl ErrorPlane {
             steps += stretch.pieces;
             *checked = checked.then(stretch.rect);
             let before = expected;
-            expected = expected_of(planes, context, stretch.rest, workspace);
+            expected = expected_of(planes, context, checked, stretch.rest, workspace);
             most = next_most(&stretch, most, before, expected);
         }
         steps
@@ -216,11 +220,14 @@ impl ErrorPlane {
         ensures owner { self.new.owner ≡ self.old.owner }
     {
         let stretch = self.dirty.next_stretch(trial.most)?;
-        if !self.make_right(planes, context, trial, stretch.rect, workspace) {
+        if self.make_right(planes, context, trial, stretch.rect, workspace) {
+            self.dirty.drop_stretch(&stretch);
+            return Some(stretch);
+        }
+        if trial.most > 1 {
             return None;
         }
-        self.dirty.drop_stretch(&stretch);
-        Some(stretch)
+        self.dirty.drop_known(&trial.checked)
     }
 
     /// Makes the marks in the rectangle right, and returns whether they are now: they are if it was checked before, or
@@ -256,7 +263,7 @@ impl ErrorPlane {
         ensures dirty { self.new.dirty ≡ self.old.dirty }
     {
         let checked = &trial.checked;
-        if checked.block.encloses(rect) {
+        if checked.encloses(rect) {
             return true;
         }
         let Some(source) = alike_source(planes, context, checked, rect, workspace) else {

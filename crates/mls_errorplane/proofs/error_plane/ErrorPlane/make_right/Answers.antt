@@ -18,7 +18,7 @@ use Rattle.mls_layout.specs.Likenesses.{ShowsAlike}
 use Rattle.mls_errorplane.proofs.CarriedMarks.{AreRight-carried, AreRightIn-kept, fits-after}
 use Rattle.mls_errorplane.proofs.CarriedSteps.{carried}
 use Rattle.mls_errorplane.proofs.DroppedRows.{DropsAll-DropsIn}
-use Rattle.mls_errorplane.proofs.StretchSteps.{AreRight-alike, AreRight-within, DropsIn-Steps, checking_with}
+use Rattle.mls_errorplane.proofs.StretchSteps.{AreRight-alike, DropsIn-Steps, checking_with}
 use Rattle.mls_errorplane.proofs.error_plane.ErrorPlane.make_right.Goals as goal
 use Rattle.mls_errorplane.proofs.error_plane.ErrorPlane.make_right.Goals.{After-shows_alike}
 
@@ -28,7 +28,7 @@ returns-then-encloses-clause-steps c = λ _ count old new drops.
     let layout = flat_layout c.args.workspace.now.pool c.args.context.now.uses c.args.planes.now in
     let marks = is_marked (picture_in c.args.workspace.now.pool c.args.self.now.owner) in
     DropsIn-Steps rules layout c.args.trial.now.limit count c.args.rect marks old new (DropsAll-DropsIn c.args.rect count old new drops)
-    (AreRight-within rules layout marks c.args.trial.now.checked.block c.args.rect (c.if-encloses.ensures.0 refl) c.requires.sound.right.2) c.requires.sound.fits
+    (c.if-encloses.ensures refl rules layout marks c.requires.sound.right) c.requires.sound.fits
 
 pub returns-in_default-clause-sound : goal.returns-in_default-clause-sound
 returns-in_default-clause-sound c =
