@@ -1,14 +1,16 @@
 -- How the program ends at a fault.
-use Rattle.std.proofs.Common.{◌≡◌, ◌⊎◌, ℕ, Bool, true, false, not, Option, List, [], ◌∷◌, ◌++◌, inl, inr, refl, sym, subst}
+use Rattle.std.proofs.Common.{◌≡◌, ◌⊎◌, ℕ, Bool, true, false, not, Option, List, [], ◌∷◌, ◌++◌, Result, Ok, Err, IfErr, OnOk, inl, inr, refl, sym, subst}
 use Rattle.mls_tech.specs.Readings.{Tech}
 use Rattle.mls_lines.specs.mls_server.Worlds.{World}
 use Rattle.mls_lines.specs.mls_wire.Watches.{Watched}
 use Rattle.mls_magicd.specs.Cells.{LoadsCells}
-use Rattle.mls_magicd.specs.CommandLines.{NamedFile, NamesFiles, cell_words}
+use Rattle.mls_lines.proofs.mls_wire.Results.{on_ok-map}
+use Rattle.mls_magicd.specs.CommandLines.{NamedFile, NamesFiles, ParsesAs, cell_words}
 use Rattle.mls_magicd.specs.Messages.{Reports, ReportsAll, fault_message}
 use Rattle.mls_magicd.specs.Programs.{EndsAtStart, FailsAtStart, FailsOver, IsBareFor, IsConfiguredBy, failed, skipped_lines, status_after}
 use Rattle.mls_magicd.specs.declared.fault.Fault.{Fault}
 use Rattle.mls_magicd.specs.declared.fault.Fault.TheVariants.{Options, Technology, Rule, Cell, Memory, Serve, Differs}
+use Rattle.mls_magicd.specs.declared.options.Options.{Options as OptionsGiven}
 use Rattle.mls_magicd.proofs.CellLoads.{LoadsCells-tech}
 use Rattle.mls_magicd.proofs.MessageLemmas.{ReportsAll-more}
 
@@ -55,6 +57,24 @@ module _ {E : Type 0} (reads_as : List ℕ → List ℕ → Type 0) (may_fail : 
     script.1,
     (fault, script.2, ReportsAll-more contents old mid new (skipped_lines script.0.setting.tech) (fault_message fault) script.3 reported),
   )
+
+-- ---- the script, where the start didn't fail
+module _ {E : Type 0} (reads_as : List ℕ → List ℕ → Type 0) (options : OptionsGiven) (contents : E → Option (List ℕ)) (old mid new : Watched E) (on : World)
+    (begun : (words : List (List ℕ)) → ParsesAs words options → IsConfiguredBy reads_as words on × ReportsAll contents old mid (skipped_lines on.setting.tech)) (same : new ≡ mid) where
+  reported : (words : List (List ℕ)) → ParsesAs words options → ReportsAll contents old new (skipped_lines on.setting.tech)
+  reported words parsed = subst (λ (faults : Watched E). ReportsAll contents old faults (skipped_lines on.setting.tech)) (sym same) (begun words parsed).1
+
+  -- it is served
+  pub serves-begun : {T : Type 0} (Serves : World → Type 0) (result : Result T Fault) → OnOk result (Serves on)
+      → OnOk result ((words : List (List ℕ)) → ParsesAs words options → (at : World) × IsConfiguredBy reads_as words at × Serves at × ReportsAll contents old new (skipped_lines at.setting.tech))
+  serves-begun Serves result = on_ok-map result (Serves on) _ (λ serves words parsed. (on, (begun words parsed).0, serves, reported words parsed))
+
+  -- it fails
+  pub fails-begun : {T : Type 0} (AtStart : List (List ℕ) → Fault → Type 0) (Fails : World → Fault → Type 0) (result : Result T Fault) → IfErr result (Fails on)
+      → IfErr result (λ fault. (words : List (List ℕ)) → ParsesAs words options
+      → AtStart words fault ⊎ ((at : World) × IsConfiguredBy reads_as words at × Fails at fault × ReportsAll contents old new (skipped_lines at.setting.tech)))
+  fails-begun AtStart Fails (Ok value) fails = tt
+  fails-begun AtStart Fails (Err fault) fails = λ words parsed. inr (on, (begun words parsed).0, fails, reported words parsed)
 
 -- ---- what was audited
 pub is_false : (b : Bool) → not b ≡ true → b ≡ false

@@ -8,10 +8,9 @@ use Rattle.mls_tech.specs.Readings.{Tech}
 use Rattle.mls_lines.specs.mls_server.Worlds.{MarksAreExact, MarksAreRight, World}
 use Rattle.mls_lines.specs.mls_wire.Serving.{HasReason, WritesRun, WritesCutRun}
 use Rattle.mls_lines.specs.mls_wire.Watches.{Watched}
-use Rattle.mls_lines.specs.mls_wire.declared.serving.ServeFault.{ServeFault}
 use Rattle.mls_magicd.specs.Cells.{LoadsCells, StopsAtCell}
 use Rattle.mls_magicd.specs.CommandLines.{AreTaken, NamedFile, NamesFiles, bad_word, cell_words, faults_in, file_named, quota_option, pool_option, journal_option, cell_tiles_option, IsNumberFor, IsRefusedBy}
-use Rattle.mls_magicd.specs.Messages.{Reports, ReportsAll, bad_cell_line, fault_message, serve_fault_line, skipped_message}
+use Rattle.mls_magicd.specs.Messages.{Reports, ReportsAll, bad_cell_line, fault_message, skipped_message}
 use Rattle.mls_magicd.specs.Technologies.{HasReading, LacksTechnology}
 use Rattle.mls_magicd.specs.declared.cells.LoadFault.{LoadFault}
 use Rattle.mls_magicd.specs.declared.fault.Fault.{Fault}

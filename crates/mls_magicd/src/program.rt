@@ -184,49 +184,23 @@ fn serve_as<'a, T: Threads + Wait + Sync, F: Files, R: Read, W: Write + Send, E:
     ensures status { IfErr result (λ fault. spec.status_after fault ≡ spec.failed) }
 {
     match options.mode() {
-        Mode::Alone => serve_script(alloc, files, options, devices),
-        Mode::Batch => serve_batch(rt, alloc, files, options, devices),
-        Mode::Stream => serve_stream(rt, alloc, files, options, devices),
+        Mode::Alone => {
+            let mut server = start_alone(alloc, files, options, &mut devices.faults)?;
+            serve_script(alloc, &mut server, devices)
+        }
+        Mode::Batch => {
+            let batch = start_batch(alloc, files, options, &mut devices.faults)?;
+            serve_batch(rt, alloc, batch, devices)
+        }
+        Mode::Stream => {
+            let stream = start_stream(alloc, files, options, &mut devices.faults)?;
+            serve_stream(rt, alloc, stream, devices)
+        }
     }
 }
 
-/// Serves the script of the input by this thread alone, with what the options name.
-fn serve_script<'a, F: Files, R: Read, W: Write, E: Write>(
-    alloc: Global,
-    files: &F,
-    options: &Options<'a>,
-    devices: &mut Devices<R, W, E>,
-) -> Result<(), Fault<'a>>
-    requires input_sound { devices.old.input.failed ≡ false }
-    requires output_sound { devices.old.output.failed ≡ false }
-    ensures ok { OnOk result ((words : List (List ℕ)) → ParsesAs words options.now → (on : World)
-        × spec.IsConfiguredBy (F.reads_as files.now) words on
-        × spec.ServesScript on (R.remaining devices.old.input.device) (W.contents devices.old.output.device)
-        (W.contents devices.new.output.device)
-        × ReportsAll E.contents devices.old.faults devices.new.faults (spec.skipped_lines on.setting.tech)) }
-    ensures err { IfErr result (λ fault. (words : List (List ℕ)) → ParsesAs words options.now →
-        (spec.FailsAtStart (F.reads_as files.now) (F.may_fail files.now) words E.contents devices.old.faults
-        devices.new.faults fault
-        × (devices.new.input ≡ devices.old.input) × (devices.new.output ≡ devices.old.output))
-        ⊎ ((on : World) × spec.IsConfiguredBy (F.reads_as files.now) words on
-        × spec.FailsInScript on (R.remaining devices.old.input.device) (R.remaining devices.new.input.device)
-        (W.contents devices.old.output.device) (W.contents devices.new.output.device)
-        devices.new.input devices.new.output fault
-        × ReportsAll E.contents devices.old.faults devices.new.faults (spec.skipped_lines on.setting.tech))) }
-    ensures status { IfErr result (λ fault. spec.status_after fault ≡ spec.failed) }
-{
-    let Technology { tech, rules, .. } = read_technology(
-        alloc,
-        files,
-        options,
-        &mut devices.faults,
-    )?;
-    let mut server = start(alloc, files, options, tech, rules)?;
-    serve_at(alloc, &mut server, devices)
-}
-
-/// Serves the script of the input at a server.
-fn serve_at<'a, R: Read, W: Write, E: Write>(
+/// Serves the script of the input at a server, by this thread alone.
+fn serve_script<'a, R: Read, W: Write, E: Write>(
     alloc: Global,
     server: &mut Server,
     devices: &mut Devices<R, W, E>,
@@ -246,32 +220,24 @@ fn serve_at<'a, R: Read, W: Write, E: Write>(
     Ok(())
 }
 
-/// Serves the script of the input as one batch, with workers and what the options name.
-fn serve_batch<'a, T: Threads + Wait + Sync, F: Files, R: Read, W: Write, E: Write>(
+/// Serves the script of the input as one batch, with workers.
+fn serve_batch<'a, T: Threads + Wait + Sync, R: Read, W: Write, E: Write>(
     rt: &T,
     alloc: Global,
-    files: &F,
-    options: &Options<'a>,
+    batch: Batch,
     devices: &mut Devices<R, W, E>,
 ) -> Result<(), Fault<'a>>
+    requires idle { (world_of batch.server).seats ≡ [] }
+    requires tech { batch.tech ≡ (world_of batch.server).setting.tech }
     requires input_sound { devices.old.input.failed ≡ false }
     requires output_sound { devices.old.output.failed ≡ false }
-    ensures ok { OnOk result ((words : List (List ℕ)) → ParsesAs words options.now → (on : World)
-        × spec.IsConfiguredBy (F.reads_as files.now) words on
-        × WritesBatch on (R.remaining devices.old.input.device) (W.contents devices.old.output.device)
-        (W.contents devices.new.output.device) true
-        × ReportsAll E.contents devices.old.faults devices.new.faults (spec.skipped_lines on.setting.tech)) }
-    ensures err { IfErr result (λ fault. (words : List (List ℕ)) → ParsesAs words options.now →
-        (spec.FailsAtStart (F.reads_as files.now) (F.may_fail files.now) words E.contents devices.old.faults
-        devices.new.faults fault
-        × (devices.new.input ≡ devices.old.input) × (devices.new.output ≡ devices.old.output))
-        ⊎ ((on : World) × spec.IsConfiguredBy (F.reads_as files.now) words on
-        × spec.FailsInBatch on (R.remaining devices.old.input.device) devices.new.input W.contents devices.old.output
-        devices.new.output fault
-        × ReportsAll E.contents devices.old.faults devices.new.faults (spec.skipped_lines on.setting.tech))) }
+    ensures ok { OnOk result (WritesBatch (world_of batch.server) (R.remaining devices.old.input.device)
+        (W.contents devices.old.output.device) (W.contents devices.new.output.device) true) }
+    ensures err { IfErr result (λ fault. spec.FailsInBatch (world_of batch.server)
+        (R.remaining devices.old.input.device) devices.new.input W.contents devices.old.output devices.new.output fault) }
     ensures status { IfErr result (λ fault. spec.status_after fault ≡ spec.failed) }
+    ensures faults { devices.new.faults ≡ devices.old.faults }
 {
-    let batch = start_batch(alloc, files, options, &mut devices.faults)?;
     let served = batch.serve(rt, alloc, &mut devices.input, &mut devices.output)?;
     if !served.audited {
         return Err(Fault::Differs);
@@ -279,35 +245,46 @@ fn serve_batch<'a, T: Threads + Wait + Sync, F: Files, R: Read, W: Write, E: Wri
     Ok(())
 }
 
-/// Serves the script of the input as a stream, with what the options name.
-fn serve_stream<'a, T: Threads + Wait + Sync, F: Files, R: Read, W: Write + Send, E: Write>(
+/// Serves the script of the input as a stream.
+fn serve_stream<'a, T: Threads + Wait + Sync, R: Read, W: Write + Send, E: Write>(
     rt: &T,
     alloc: Global,
-    files: &F,
-    options: &Options<'a>,
+    stream: Stream,
     devices: &mut Devices<R, W, E>,
 ) -> Result<(), Fault<'a>>
-    ensures ok { OnOk result ((words : List (List ℕ)) → ParsesAs words options.now → (on : World)
-        × spec.IsConfiguredBy (F.reads_as files.now) words on
-        × WritesStream on (R.remaining devices.old.input.device) (W.contents devices.old.output.device)
-        (W.contents devices.new.output.device) true
-        × ReportsAll E.contents devices.old.faults devices.new.faults (spec.skipped_lines on.setting.tech)) }
-    ensures err { IfErr result (λ fault. (words : List (List ℕ)) → ParsesAs words options.now →
-        (spec.FailsAtStart (F.reads_as files.now) (F.may_fail files.now) words E.contents devices.old.faults
-        devices.new.faults fault
-        × (devices.new.input ≡ devices.old.input) × (devices.new.output ≡ devices.old.output))
-        ⊎ ((on : World) × spec.IsConfiguredBy (F.reads_as files.now) words on
-        × spec.FailsInStream on (R.remaining devices.old.input.device) devices.new.input W.contents devices.old.output
-        devices.new.output fault
-        × ReportsAll E.contents devices.old.faults devices.new.faults (spec.skipped_lines on.setting.tech))) }
+    requires idle { (world_of stream.server).seats ≡ [] }
+    requires symbols { stream.symbols ≡ symbols_of (world_of stream.server).setting }
+    ensures ok { OnOk result (WritesStream (world_of stream.server) (R.remaining devices.old.input.device)
+        (W.contents devices.old.output.device) (W.contents devices.new.output.device) true) }
+    ensures err { IfErr result (λ fault. spec.FailsInStream (world_of stream.server)
+        (R.remaining devices.old.input.device) devices.new.input W.contents devices.old.output devices.new.output fault) }
     ensures status { IfErr result (λ fault. spec.status_after fault ≡ spec.failed) }
+    ensures faults { devices.new.faults ≡ devices.old.faults }
 {
-    let stream = start_stream(alloc, files, options, &mut devices.faults)?;
     let served = stream.serve(rt, alloc, &mut devices.input, &mut devices.output)?;
     if !served.audited {
         return Err(Fault::Differs);
     }
     Ok(())
+}
+
+/// Does what comes before a script that one thread serves: reads the technology, makes the server, and loads the cells.
+fn start_alone<'a, F: Files, E: Write>(
+    alloc: Global,
+    files: &F,
+    options: &Options<'a>,
+    faults: &mut Watched<E>,
+) -> Result<Server, Fault<'a>>
+    ensures ok { IfOk result (λ server. (words : List (List ℕ)) → ParsesAs words options.now
+        → spec.IsConfiguredBy (F.reads_as files.now) words (world_of server)
+        × ReportsAll E.contents faults.old faults.new (spec.skipped_lines (world_of server).setting.tech)) }
+    ensures err { IfErr result (λ fault. (words : List (List ℕ)) → ParsesAs words options.now
+        → spec.FailsAtStart (F.reads_as files.now)
+        (F.may_fail files.now) words E.contents faults.old faults.new fault) }
+    ensures status { IfErr result (λ fault. spec.status_after fault ≡ spec.failed) }
+{
+    let Technology { tech, rules, .. } = read_technology(alloc, files, options, faults)?;
+    start(alloc, files, options, tech, rules)
 }
 
 /// Does what comes before a stream: makes the server, loads cells, and notes what names mean.
