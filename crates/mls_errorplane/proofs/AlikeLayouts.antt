@@ -1,22 +1,10 @@
 -- Where each plane shows one kind round squares, the rules forbid all of these or none; where it shows columns, all of a column or none; where rows, all of a row.
 use Rattle.std.proofs.Common.{◌≡◌, ℕ, true, not, ◌&&◌, ◌||◌, List, refl, sym, ap, ◌∙◌}
 use Rattle.std.specs.List.{list_any}
-use Rattle.mls_edgerule.specs.Directions.{directions_in}
-use Rattle.mls_edgerule.specs.declared.edge_rule.EdgeRule.{EdgeRule}
-use Rattle.mls_geom.specs.Directions.{across}
-use Rattle.mls_geom.specs.Layouts.{Layout}
-use Rattle.mls_geom.specs.Rects.{Rect, Point, holds}
-use Rattle.mls_geom.specs.World.{world}
-use Rattle.mls_geom.specs.declared.direction.Direction.{Direction}
-use Rattle.mls_geom.specs.declared.direction.Direction.TheVariants.{Right, Up, Left, Down}
-use Rattle.mls_checker.specs.Forbids.{forbidden, forbids, in_block, in_row, is_disallowed, reaches}
+use Rattle.mls_errorplane.proofs.Words.{Columns, Direction, EdgeRule, IsAlike, Layout, Likeness, OneKind, Point, Rect, Right, Rows, across, directions_in, forbidden, forbids, holds, in_block, in_row, is_disallowed, like_column, like_row, reaches, world}
 use Rattle.mls_checker.proofs.ListTests.{list_any_same}
 use Rattle.mls_checker.proofs.Locality.{forbidden_same_in}
 use Rattle.mls_kinds.specs.KindSets.{has_bit as has_type}
-use Rattle.mls_layout.specs.Likenesses.{like_column, like_row}
-use Rattle.mls_errorplane.specs.Stretches.{IsAlike}
-use Rattle.mls_layout.specs.declared.likeness.Likeness.{Likeness}
-use Rattle.mls_layout.specs.declared.likeness.Likeness.TheVariants.{OneKind, Columns, Rows}
 use Rattle.mls_layout.proofs.LikeSquares.{like_column-again, like_row-again}
 
 -- where the rules forbid both squares or none, and both are of the world, both are forbidden or none
@@ -52,13 +40,8 @@ reached-alike :
     || list_any (in_block rule (alike likeness rect layout) direction (like likeness rect x y)) (across direction))
 reached-alike rule OneKind rect layout x y direction = refl
 reached-alike rule Columns rect layout x y Right = refl
-reached-alike rule Columns rect layout x y Up = refl
-reached-alike rule Columns rect layout x y Left = refl
-reached-alike rule Columns rect layout x y Down = refl
 reached-alike rule Rows rect layout x y Right = refl
-reached-alike rule Rows rect layout x y Up = refl
-reached-alike rule Rows rect layout x y Left = refl
-reached-alike rule Rows rect layout x y Down = refl
+reached-alike rule likeness rect layout x y direction = refl
 
 reaches-alike :
     (rule : EdgeRule) (likeness : Likeness) (rect : Rect) (layout : Layout) (x y : ℕ)

@@ -1,15 +1,11 @@
 -- How many squares areas have, and that dropping a piece leaves fewer.
-use Rattle.std.proofs.Common.{◌≡◌, ℕ, ◌+◌, ◌-◌, ◌*◌, ◌/◌, ◌<◌, ◌≤◌, ◌^◌, Bool, true, false, cond, List, [], ◌∷◌, All, refl, inl, inr, arith}
-use Rattle.std.specs.List.{filter}
+use Rattle.std.proofs.Common.{◌≡◌, ℕ, ◌+◌, ◌-◌, ◌*◌, ◌/◌, ◌<◌, ◌≤◌, ◌^◌, Bool, true, false, cond, List, [], ◌∷◌, All, refl, inl, inr, arith, filter}
 use Rattle.std.proofs.lemmas.Bool.{cases_lt}
 use Rattle.std.proofs.lemmas.Bool.Decides.{nat_tests}
 use Rattle.std.proofs.lemmas.List.Sums.{sum_by-append, sum_by-cons, sum_by-le}
 use Rattle.std.proofs.lemmas.Nat.{mul-le}
 use Rattle.std.proofs.Math.Nat.{mul-zero, one-le-mul, zero-mul}
-use Rattle.mls_geom.specs.Rects.{Rect, IsRectangleIn, has_squares, size_of}
-use Rattle.mls_geom.specs.World.{world}
-use Rattle.mls_errorplane.specs.DirtyLists.{IsDirtyList, area_of, dropped, piece_of, rest_above, rest_beside, rests_of}
-use Rattle.mls_errorplane.specs.MarkPlanes.{most_pieces}
+use Rattle.mls_errorplane.proofs.Words.{IsDirtyList, IsRectangleIn, Rect, area_of, dropped, has_squares, most_pieces, piece_of, rest_above, rest_beside, rests_of, size_of, world}
 
 -- a rectangle without squares has the size 0
 size_of-none : (e : Rect) → has_squares e ≡ false → size_of e ≡ 0

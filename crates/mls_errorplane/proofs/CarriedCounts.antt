@@ -2,24 +2,9 @@
 use Rattle.std.proofs.Common.{◌≡◌, ℕ, ◌+◌, ◌*◌, ◌<◌, ◌≤◌, ◌==◌, Bool, cond, not, true, false, inl, inr, List, All, IfSome, Option, None, Some, length, refl, sym, ap, ◌∙◌, le_refl, arith}
 use Rattle.std.proofs.lemmas.Bool.{both_ways, cases_Bool, false_from_ne_true}
 use Rattle.std.proofs.lemmas.List.Elements.{All-contains}
-use Rattle.mls_geom.specs.Pictures.{Picture}
-use Rattle.mls_geom.specs.Rects.{Rect, IsRectangleIn, holds}
-use Rattle.mls_geom.specs.TileCounts.{tile_count}
-use Rattle.mls_geom.specs.World.{world}
+use Rattle.mls_errorplane.proofs.Words.{AreCarried, AreFew, Columns, GoUp, HasPlane, HasStrips, IsRectangleIn, LaidTile, LeavesRoom, Likeness, MeetArea, OneKind, Picture, Pool, Rect, Rows, RunsThrough, SquareSet, block_at, carries_up, holds, is_marked, likened, marks_picture, picture_in, piece_side, remarked, tile_count, tiles_of, world}
 use Rattle.mls_geom.proofs.Holds.{between_holds, holds_between}
-use Rattle.mls_tilepool.specs.Pools.{Pool, tiles_of}
-use Rattle.mls_stitch.specs.Areas.{MeetArea}
-use Rattle.mls_stitch.specs.Tilings.{HasPlane, block_at}
-use Rattle.mls_stitch.specs.declared.laid_tile.LaidTile.{LaidTile}
-use Rattle.mls_paint.specs.Planes.{HasStrips, picture_in}
-use Rattle.mls_checker.specs.Marking.{SquareSet}
 use Rattle.mls_checker.proofs.Copying.{found-HasPiece}
-use Rattle.mls_errorplane.specs.Carrying.{AreCarried, AreFew, GoUp, LeavesRoom, RunsThrough, carries_up, likened}
-use Rattle.mls_errorplane.specs.DirtyLists.{piece_side}
-use Rattle.mls_errorplane.specs.ErrorPlanes.{marks_picture}
-use Rattle.mls_errorplane.specs.MarkPlanes.{is_marked, remarked}
-use Rattle.mls_layout.specs.declared.likeness.Likeness.{Likeness}
-use Rattle.mls_layout.specs.declared.likeness.Likeness.TheVariants.{OneKind, Columns, Rows}
 use Rattle.mls_errorplane.proofs.PartCounts.{tile_count-above, tile_count-found}
 
 -- what holds of a number, if there is one, leads to what follows from it

@@ -5,32 +5,12 @@ use Rattle.std.proofs.lemmas.Bool.{both_ways, cases_Bool, cond-false, cond-true,
 use Rattle.std.proofs.lemmas.Bool.Decides.{nat_tests}
 use Rattle.std.proofs.lemmas.List.{get_or-map, length-map}
 use Rattle.std.proofs.lemmas.List.Elements.{All-map}
-use Rattle.mls_geom.specs.Pictures.{Picture, overlaid}
-use Rattle.mls_geom.specs.Rects.{Rect, IsRectangleIn, holds, joined, meets}
-use Rattle.mls_geom.specs.World.{world}
-use Rattle.mls_geom.specs.declared.piece.Piece.{Piece}
+use Rattle.mls_errorplane.proofs.Words.{AreCarried, AreFew, AreInArea, AreRight, AreRightIn, Checked, Columns, EdgeRule, HasPlane, IsAlike, IsRectangleIn, LaidTile, Layout, Likeness, OneKind, Paints, Picture, Piece, Pool, Rect, Rows, SquareSet, Tells, block_at, count_of, edge_of, exceeds, holds, is_marked, joined, like_column, like_row, likened, marked_count, marks_picture, meets, overlaid, part_like, picture_in, piece_like, remarked, tiles_of, world}
 use Rattle.mls_geom.proofs.Holds.{between_holds, holds_between}
 use Rattle.mls_geom.proofs.JoinedRects.{holds-joined_one, holds-joined_other}
 use Rattle.mls_geom.proofs.Overlays.{Agrees, overlaid_agreed, overlaid_outside}
-use Rattle.mls_edgerule.specs.declared.edge_rule.EdgeRule.{EdgeRule}
-use Rattle.mls_geom.specs.Layouts.{Layout}
-use Rattle.mls_tilepool.specs.Pools.{Pool, count_of, tiles_of}
-use Rattle.mls_stitch.specs.Areas.{AreInArea}
-use Rattle.mls_stitch.specs.Tilings.{HasPlane, block_at}
-use Rattle.mls_stitch.specs.declared.laid_tile.LaidTile.{LaidTile}
 use Rattle.mls_stitch.proofs.ListedTiles.{keys-AreInArea, length-le-AreLaid}
 use Rattle.mls_stitch.proofs.ShownTiles.{KeysDiffer-tiles_of, shown-inside}
-use Rattle.mls_paint.specs.Planes.{picture_in}
-use Rattle.mls_checker.specs.Marking.{SquareSet}
-use Rattle.mls_errorplane.specs.ErrorPlanes.{exceeds, marks_picture}
-use Rattle.mls_errorplane.specs.MarkPlanes.{is_marked, marked_count, remarked}
-use Rattle.mls_errorplane.specs.PaintedMarks.{Paints}
-use Rattle.mls_errorplane.specs.Carrying.{AreCarried, AreFew, edge_of, part_like, piece_like, likened}
-use Rattle.mls_layout.specs.Likenesses.{like_column, like_row}
-use Rattle.mls_errorplane.specs.Stretches.{AreRight, AreRightIn, IsAlike, Tells}
-use Rattle.mls_errorplane.specs.declared.checked.Checked.{Checked}
-use Rattle.mls_layout.specs.declared.likeness.Likeness.{Likeness}
-use Rattle.mls_layout.specs.declared.likeness.Likeness.TheVariants.{OneKind, Columns, Rows}
 use Rattle.mls_errorplane.proofs.AlikeLayouts.{forbidden-alike}
 use Rattle.mls_errorplane.proofs.CheckedMarks.{marked_either, marks_picture-alone}
 use Rattle.mls_layout.proofs.LikeSquares.{like_column-again, like_row-again}

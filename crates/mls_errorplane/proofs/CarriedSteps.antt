@@ -1,27 +1,17 @@
 -- Check steps over a stretch whose marks change: where there are few enough tiles before and after together, each of them is done.
-use Rattle.std.proofs.Common.{◌≡◌, ℕ, zero, suc, ◌+◌, ◌-◌, ◌≤◌, ◌<◌, ◌||◌, max, min, nat_lt, Bool, true, false, cond, if◌then◌else◌, inl, inr, List, [], ◌∷◌, Some, refl, sym, ap, subst, ◌∙◌, arith}
+use Rattle.std.proofs.Common.{◌≡◌, ℕ, zero, suc, ◌+◌, ◌-◌, ◌≤◌, ◌<◌, ◌||◌, max, min, nat_lt, Bool, true, false, cond, if◌then◌else◌, inl, inr, List, [], ◌∷◌, Some, refl, sym, ap, subst, ◌∙◌, arith, le-ltb}
 use Rattle.std.specs.Option.{IsSomeAnd}
 use Rattle.std.proofs.Math.Path.{fun_ext}
-use Rattle.std.proofs.lemmas.Bool.{both_ways, cases_Bool, cases_lt, false_from_ne_true, le-ltb}
+use Rattle.std.proofs.lemmas.Bool.{both_ways, cases_Bool, cases_lt, false_from_ne_true}
 use Rattle.std.proofs.lemmas.Bool.Decides.{nat_tests}
-use Rattle.mls_edgerule.specs.declared.edge_rule.EdgeRule.{EdgeRule}
-use Rattle.mls_geom.specs.Layouts.{Layout}
-use Rattle.mls_geom.specs.Rects.{Rect, IsRectangleIn, holds}
-use Rattle.mls_geom.specs.TileCounts.{tile_count}
-use Rattle.mls_geom.specs.World.{world}
+use Rattle.mls_errorplane.proofs.Words.{AreFew, AreRight, DropsAll, DropsTo, EdgeRule, GoUp, HasStepped, IsRectangleIn, Layout, Rect, SquareSet, Stair, Steps, Takes, checked_marks, dropped, exceeds, first_piece_of, forbidden, holds, in_stair, marks_picture, piece_of, piece_side, tile_count, world}
 use Rattle.mls_geom.proofs.Holds.{between_holds, holds_between}
-use Rattle.mls_checker.specs.Forbids.{forbidden}
-use Rattle.mls_checker.specs.Marking.{SquareSet}
-use Rattle.mls_errorplane.specs.Carrying.{AreFew, GoUp}
-use Rattle.mls_errorplane.specs.CatchingUp.{Steps}
-use Rattle.mls_errorplane.specs.Checkings.{checked_marks}
-use Rattle.mls_errorplane.specs.DirtyLists.{dropped, first_piece_of, piece_of, piece_side}
-use Rattle.mls_errorplane.specs.ErrorPlanes.{HasStepped, exceeds, marks_picture}
-use Rattle.mls_errorplane.specs.Stretches.{AreRight, DropsAll, DropsTo, Stair, Takes, in_stair}
 use Rattle.mls_errorplane.specs.declared.error_plane.Stepped.TheVariants as stepped
+use Rattle.mls_errorplane.proofs.PaintedPieces.{holds_inside}
 use Rattle.mls_errorplane.proofs.StairCorners.{IsAsBelow}
 use Rattle.mls_errorplane.proofs.StairCounts.{stair, tile_count-stair}
-use Rattle.mls_errorplane.proofs.StretchSteps.{checking_with, inner_holds, not_empty}
+use Rattle.mls_errorplane.proofs.CheckedMarks.{checking_with}
+use Rattle.mls_errorplane.proofs.StretchSteps.{not_empty}
 
 -- ---- stairs in the rows of a rectangle
 -- the stair that has the squares of another one in a rectangle, with its band between the rectangle's bottom and top
@@ -99,7 +89,7 @@ module _
         inside-checked (holds piece x y) (in_stair before x y) (in_stair at x y) (after x y) (marks x y) (forbidden rules layout x y) (takes.squares x y inside) (right x y inside)
     | inr outside ↦
         outside-checked (holds piece x y) (in_stair before x y) (in_stair at x y) (after x y) (marks x y) (forbidden rules layout x y)
-        (false_from_ne_true (holds piece x y) (λ here. both_ways (holds rect x y) outside (inner_holds rect piece x y takes.inside here)))
+        (false_from_ne_true (holds piece x y) (λ here. both_ways (holds rect x y) outside (holds_inside rect piece x y takes.inside here)))
         (same x y outside)
   ]))
 

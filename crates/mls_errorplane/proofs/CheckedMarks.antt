@@ -1,33 +1,13 @@
 -- What an error plane shows once a finding's piece is marked on it.
-use Rattle.std.proofs.Common.{◌≡◌, ◌≢◌, ℕ, nat_lt, ◌<◌, ◌==◌, Bool, not, ◌&&◌, true, false, if◌then◌else◌, List, [], ◌∷◌, All, Option, Some, None, Result, Ok, Err, IfOk, slice_get, refl, sym, ap, subst, ◌∙◌, arith}
+use Rattle.std.proofs.Common.{◌≡◌, ◌≢◌, ℕ, nat_lt, ◌<◌, ◌==◌, Bool, not, ◌&&◌, true, false, if◌then◌else◌, List, [], ◌∷◌, All, Option, Some, None, Result, Ok, Err, IfOk, slice_get, refl, sym, ap, subst, ◌∙◌, lt-ltb, ltb-true}
 use Rattle.std.proofs.Math.Path.{fun_ext}
 use Rattle.std.proofs.lemmas.Bool.{false_from_ne_true}
-use Rattle.std.proofs.lemmas.Bool.Decides.{nat_tests}
 use Rattle.std.proofs.lemmas.Option.{get_or_from_slice_get, none-some, slice_get_within}
-use Rattle.mls_edgerule.specs.declared.edge_rule.EdgeRule.{EdgeRule}
-use Rattle.mls_geom.specs.Layouts.{Layout}
-use Rattle.mls_geom.specs.Pictures.{Picture}
-use Rattle.mls_geom.specs.Rects.{Rect, holds}
-use Rattle.mls_geom.specs.TileCounts.{tile_count}
-use Rattle.mls_geom.specs.World.{world}
-use Rattle.mls_tilepool.specs.Pools.{Pool, tiles_of}
-use Rattle.mls_stitch.specs.Tilings.{HasPlane}
+use Rattle.mls_errorplane.proofs.Words.{AgreeOutside, Checking, EdgeRule, Finding, HasPlane, HasStepped, IsExact, Layout, Marks, Picture, Pool, Rect, Snapshot, SquareSet, Uses, checked_marks, copied_layout, dropped, first_piece_of, flat_layout, forbidden, holds, is_marked, layout_in, marks, marks_picture, picture_at, remarked, tile_count, tiles_of, within, world}
 use Rattle.mls_stitch.proofs.ShownTiles.{KeysDiffer-tiles_of, shown-outside}
-use Rattle.mls_paint.specs.Planes.{layout_in, picture_at}
-use Rattle.mls_layout.specs.Uses.{flat_layout}
-use Rattle.mls_layout.specs.declared.uses.Uses.{Uses}
 use Rattle.mls_layout.proofs.FlatLayouts.{flat_layout-outside}
-use Rattle.mls_checker.specs.Copies.{Snapshot, copied_layout}
-use Rattle.mls_checker.specs.Findings.{Finding, IsExact}
-use Rattle.mls_checker.specs.Forbids.{forbidden}
-use Rattle.mls_checker.specs.Marking.{Marks, SquareSet, marks}
-use Rattle.mls_checker.specs.ZoneLayouts.{AgreeOutside, within}
 use Rattle.mls_checker.proofs.Locality.{forbidden_same_within}
-use Rattle.mls_errorplane.specs.Checkings.{Checking, checked_marks}
-use Rattle.mls_errorplane.specs.DirtyLists.{dropped, first_piece_of}
-use Rattle.mls_errorplane.specs.ErrorPlanes.{HasStepped, marks_picture}
 use Rattle.mls_errorplane.specs.declared.error_plane.Stepped.TheVariants.{Done, Full}
-use Rattle.mls_errorplane.specs.MarkPlanes.{is_marked, remarked}
 
 -- ---- marks and pictures of them
 two_kinds : (marked : Bool) → not ((if marked then 1 else 0) == 0) ≡ marked
@@ -95,17 +75,11 @@ pub has_piece : (dirty : List Rect) (piece : Rect) → first_piece_of dirty ≡ 
 has_piece [] piece first none = none-some piece first
 has_piece (area ∷ rest) piece first none = absurd (cc)
 
-abbrev checking_with : SquareSet → List Rect → Checking
+abbrev pub checking_with : SquareSet → List Rect → Checking
 checking_with marks dirty = record { marks = marks; dirty = dirty }
 
-lt-true : (a b : ℕ) → a < b → nat_lt a b ≡ true
-lt-true a b less = grind (arith, nat_tests)
-
-less-from : (a b : ℕ) → nat_lt a b ≡ true → a < b
-less-from a b is = grind (arith, nat_tests)
-
 lt-false : (a b : ℕ) → (a < b → ⊥) → nat_lt a b ≡ false
-lt-false a b not_less = false_from_ne_true (nat_lt a b) (λ is. not_less (less-from a b is))
+lt-false a b not_less = false_from_ne_true (nat_lt a b) (λ is. not_less (ltb-true a b is))
 
 made : (marks others : SquareSet) (dirty left : List Rect) → marks ≡ others → dirty ≡ left → checking_with marks dirty ≡ checking_with others left
 made marks others dirty left same same' = ap (λ (m : SquareSet). checking_with m dirty) same ∙ ap (λ (d : List Rect). checking_with others d) same'
@@ -131,7 +105,7 @@ pub HasStepped-Full :
     → new ≡ marks_picture (checked_marks rules layout (first_piece_of dirty) (is_marked old)) → limit < tile_count world new → now ≡ checking old dirty
     → HasStepped rules layout limit (checking old dirty) Full now
 HasStepped-Full rules layout limit old new dirty piece now first shows more same =
-    (has_piece dirty piece first, lt-true limit (tile_count world (marks_picture (checked_marks rules layout (first_piece_of dirty) (is_marked old)))) (subst (λ (p : Picture). limit < tile_count world p) shows more), same)
+    (has_piece dirty piece first, lt-ltb limit (tile_count world (marks_picture (checked_marks rules layout (first_piece_of dirty) (is_marked old)))) (subst (λ (p : Picture). limit < tile_count world p) shows more), same)
 
 -- ---- planes
 -- what planes show outside the world is space

@@ -1,19 +1,16 @@
 -- Sets that together have all squares of an extent, and no more squares than it has, share none.
-use Rattle.std.proofs.Common.{◌≡◌, ℕ, zero, suc, ◌+◌, ◌-◌, ◌<◌, ◌≤◌, Bool, ◌||◌, ◌&&◌, true, false, inl, inr, List, [], ◌∷◌, All, refl, sym, ap, ◌∙◌, arith}
-use Rattle.std.specs.List.{list_any, range_with_len, sum_by}
+use Rattle.std.proofs.Common.{◌≡◌, ℕ, zero, suc, ◌+◌, ◌-◌, ◌<◌, ◌≤◌, Bool, ◌||◌, ◌&&◌, true, false, inl, inr, List, [], ◌∷◌, All, refl, sym, ap, ◌∙◌, arith, sum_by, le_of_eq}
+use Rattle.std.proofs.Math.Bool.{and-true}
+use Rattle.std.specs.List.{list_any, range_with_len}
 use Rattle.std.proofs.lemmas.Bool.{both_ways, cases_Bool, cases_lt, false_from_ne_true}
 use Rattle.std.proofs.lemmas.List.Elements.{All-head, All-tail}
 use Rattle.std.proofs.lemmas.List.Sums.{sum_by-cons}
-use Rattle.mls_geom.specs.Pictures.{columns}
-use Rattle.mls_geom.specs.Rects.{Rect, IsRectangleIn, common, has_squares, holds, size_of}
+use Rattle.mls_errorplane.specs.Words.{IsRectangleIn, Rect, columns, common, has_squares, holds, size_of}
 use Rattle.mls_geom.proofs.Holds.{has_squares_lines, holds_between, holds_common, square_has_squares}
 use Rattle.mls_errorplane.proofs.RangeSums.{sum_by-plus}
 use Rattle.mls_errorplane.proofs.SquareCounts.{bit, count_in, count_in-agree, count_in-none, count_in-rect}
 
 -- ---- numbers
-le-same : (a b : ℕ) → a ≡ b → a ≤ b
-le-same a b same = omega (arith, same)
-
 le-none : (a b : ℕ) → a ≡ 0 → a ≤ b
 le-none a b none = omega (arith, none)
 
@@ -93,12 +90,8 @@ apart-from_counts e a b whole few x y here =
     none-from_count e (λ x y. a x y && b x y) (omega (arith, count_in-both e a b, all, few)) x y here
 
 -- ---- rectangles
-and_true : (b : Bool) → (b && true) ≡ b
-and_true true = refl
-and_true false = refl
-
 pub in_common : (extent r : Rect) (x y : ℕ) → holds extent x y ≡ true → holds r x y ≡ holds (common r extent) x y
-in_common e r x y inside = sym (holds_common r e x y ∙ ap (λ b. holds r x y && b) inside ∙ and_true (holds r x y))
+in_common e r x y inside = sym (holds_common r e x y ∙ ap (λ b. holds r x y && b) inside ∙ and-true (holds r x y))
 
 pub not_common : (extent r : Rect) (x y : ℕ) → has_squares (common r extent) ≡ false → holds extent x y ≡ true → holds r x y ≡ false
 not_common e r x y none inside =
@@ -115,7 +108,7 @@ count_in-meeting e r some =
 -- and no more where there are none
 pub count_in-common : (extent r : Rect) → count_in extent (holds r) ≤ size_of (common r extent)
 count_in-common e r = elim (cases_Bool (has_squares (common r e))) [
-  | inl some ↦ le-same (count_in e (holds r)) (size_of (common r e)) (count_in-meeting e r some)
+  | inl some ↦ le_of_eq (count_in-meeting e r some)
   | inr none ↦ le-none (count_in e (holds r)) (size_of (common r e)) (count_in-agree e (holds r) (λ x y. false) (λ x y inside. not_common e r x y none inside) ∙ count_in-none e)
 ]
 

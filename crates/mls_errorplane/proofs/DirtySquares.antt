@@ -1,13 +1,10 @@
 -- The squares of areas as the list changes.
-use Rattle.std.proofs.Common.{◌≡◌, ℕ, Bool, ◌||◌, true, false, cond, List, [], ◌∷◌, ◌++◌, length, ap, ◌∙◌, inl, inr}
-use Rattle.std.specs.Prelude.{nat_lt}
+use Rattle.std.proofs.Common.{◌≡◌, ℕ, Bool, ◌||◌, true, false, cond, List, [], ◌∷◌, ◌++◌, length, ap, ◌∙◌, inl, inr, nat_lt}
 use Rattle.std.proofs.lemmas.Bool.{or_cases, or_left}
 use Rattle.std.proofs.Math.Bool.{or-false}
 use Rattle.std.proofs.lemmas.List.Folds.{list_any-append}
-use Rattle.mls_checker.specs.Marking.{squares_of}
-use Rattle.mls_geom.specs.Rects.{Rect, holds, joined}
+use Rattle.mls_errorplane.proofs.Words.{Rect, added, holds, joined, most_areas, round_all, squares_of, united}
 use Rattle.mls_geom.proofs.JoinedRects.{holds-joined_one, holds-joined_other}
-use Rattle.mls_errorplane.specs.DirtyLists.{added, most_areas, round_all, united}
 
 -- the rectangle round all has the squares of all
 round_all-first : (first : Rect) (rest : List Rect) (x y : ℕ) → holds first x y ≡ true → holds (round_all first rest) x y ≡ true

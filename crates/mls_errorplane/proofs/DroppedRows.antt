@@ -1,13 +1,10 @@
 -- What lists of areas are without several of their next pieces, and which squares these pieces are.
-use Rattle.std.proofs.Common.{◌≡◌, ℕ, zero, suc, ◌+◌, ◌-◌, ◌*◌, ◌<◌, ◌≤◌, min, Bool, ◌||◌, true, false, cond, inl, inr, List, [], ◌∷◌, ◌++◌, Option, None, Some, refl, sym, ap, subst, ◌∙◌, le_refl, arith, lt-ltb}
+use Rattle.std.proofs.Common.{◌≡◌, ℕ, zero, suc, ◌+◌, ◌-◌, ◌*◌, ◌<◌, ◌≤◌, min, Bool, ◌||◌, true, false, cond, inl, inr, List, [], ◌∷◌, ◌++◌, Option, None, Some, refl, sym, ap, subst, ◌∙◌, le_refl, arith, lt-ltb, le-ltb}
 use Rattle.std.specs.Option.{IsSomeAnd}
-use Rattle.std.proofs.lemmas.Bool.{and_from, and_right, cases_lt, cond-false, cond-true, le-ltb, or_from, or_left, or_right}
+use Rattle.std.proofs.lemmas.Bool.{and_from, and_right, cases_lt, cond-false, cond-true, or_from, or_left, or_right}
 use Rattle.std.proofs.lemmas.Bool.Decides.{nat_tests}
-use Rattle.mls_geom.specs.Rects.{Rect, IsRectangleIn, has_squares, holds}
-use Rattle.mls_geom.specs.World.{world}
+use Rattle.mls_errorplane.proofs.Words.{DropsAll, DropsIn, DropsTo, IsRectangleIn, Rect, Stair, Takes, dropped, first_piece_of, has_squares, holds, in_stair, piece_of, piece_side, rest_above, rest_beside, world}
 use Rattle.mls_geom.proofs.Holds.{holds_between}
-use Rattle.mls_errorplane.specs.DirtyLists.{dropped, first_piece_of, piece_of, piece_side, rest_above, rest_beside}
-use Rattle.mls_errorplane.specs.Stretches.{DropsAll, DropsIn, DropsTo, Stair, Takes, in_stair}
 
 -- ---- drops
 IsSomeAnd-map : {A : Type 0} (P Q : A → Type 0) (at : Option A) → ((a : A) → P a → Q a) → IsSomeAnd at P → IsSomeAnd at Q

@@ -5,24 +5,10 @@ use Rattle.std.specs.List.{list_any, range_with_len}
 use Rattle.std.proofs.lemmas.Bool.{and_from, and_parts, false_from_ne_true}
 use Rattle.std.proofs.lemmas.Bool.{both_ways as contradiction}
 use Rattle.std.proofs.lemmas.Bool.Decides.{nat_tests}
-use Rattle.mls_edgerule.specs.Directions.{directions_in}
-use Rattle.mls_edgerule.specs.declared.directions.Directions.{Directions}
-use Rattle.mls_edgerule.specs.declared.directions.Directions.TheVariants.{RightAndUp, Four}
-use Rattle.mls_edgerule.specs.declared.edge_rule.EdgeRule.{EdgeRule}
+use Rattle.mls_errorplane.proofs.Words.{Direction, Directions, Down, EdgeRule, Four, IsChecked, Layout, Left, Point, Right, RightAndUp, Up, across, columns, directions_in, empty_picture, forbidden, forbids, forbids_any, forbids_space, holds, in_block, in_row, opening_checking, reaches, squares_of, world}
 use Rattle.mls_kinds.specs.KindSets.{has_bit as has_type}
-use Rattle.mls_geom.specs.Directions.{across}
-use Rattle.mls_geom.specs.Layouts.{Layout}
-use Rattle.mls_geom.specs.Pictures.{columns, empty_picture}
-use Rattle.mls_geom.specs.Rects.{Point, holds}
-use Rattle.mls_geom.specs.World.{world}
-use Rattle.mls_geom.specs.declared.direction.Direction.{Direction}
-use Rattle.mls_geom.specs.declared.direction.Direction.TheVariants.{Right, Up, Left, Down}
 use Rattle.mls_geom.proofs.Holds.{holds_between}
-use Rattle.mls_checker.specs.Forbids.{forbidden, forbids, in_block, in_row, reaches}
-use Rattle.mls_checker.specs.Marking.{squares_of}
 use Rattle.mls_checker.proofs.ListTests.{found_in_range, list_any_same, range_finds}
-use Rattle.mls_errorplane.specs.Checkings.{IsChecked, forbids_any, opening_checking}
-use Rattle.mls_errorplane.specs.EmptyLayouts.{forbids_space}
 
 -- ---- whether the rules forbid some square
 -- they do where they forbid this one

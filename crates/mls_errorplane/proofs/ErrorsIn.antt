@@ -1,31 +1,17 @@
 -- The marks of a rectangle, as pieces and as strips.
-use Rattle.std.proofs.Common.{◌≡◌, ℕ, suc, ◌<◌, ◌≤◌, ◌==◌, ◌&&◌, ◌||◌, Bool, not, true, false, cond, if◌then◌else◌, true≢false, inl, inr, All, List, [], ◌∷◌, ◌++◌, ◌+◌, length, take, Option, Some, None, get_or, refl, sym, ap, subst, ◌∙◌, arith}
-use Rattle.std.specs.Prelude.{IfSome, IsSome}
-use Rattle.std.specs.List.{cons_option, filter_map, list_any}
-use Rattle.std.specs.Option.{option_map}
+use Rattle.std.proofs.Common.{◌≡◌, ℕ, suc, ◌<◌, ◌≤◌, ◌==◌, ◌&&◌, ◌||◌, Bool, not, true, false, cond, if◌then◌else◌, true≢false, inl, inr, All, List, [], ◌∷◌, ◌++◌, ◌+◌, length, take, Option, Some, None, get_or, refl, sym, ap, subst, ◌∙◌, arith, IfSome, IsSome, filter_map, option_map}
+use Rattle.std.specs.List.{cons_option, list_any}
 use Rattle.std.proofs.Math.Path.{fun_ext}
 use Rattle.std.proofs.lemmas.Bool.{and_from, and_parts, cases_Bool}
 use Rattle.std.proofs.lemmas.List.Elements.{All-cons, All-head, All-nil, All-tail, filter_map-append}
 use Rattle.std.proofs.lemmas.List.{take_more}
 use Rattle.std.proofs.lemmas.List.Folds.{Any-from_list_any, list_any-from_Any}
-use Rattle.mls_geom.specs.Locality.{AreCoveredStrips, HaveKinds, laid, uncovered}
-use Rattle.mls_geom.specs.Pictures.{Picture, empty_picture, overlaid, painted, picture_of}
-use Rattle.mls_geom.specs.Rects.{IsRectangleIn, Rect, common, has_squares, holds}
-use Rattle.mls_geom.specs.StripLists.{strips_of}
-use Rattle.mls_geom.specs.World.{world}
-use Rattle.mls_geom.specs.declared.piece.Piece.{Piece}
+use Rattle.mls_errorplane.proofs.Words.{AreCoveredStrips, AreInArea, HasPlane, HaveKinds, IsRectangleIn, LaidTile, MeetArea, Picture, Piece, Pool, Rect, block_at, common, empty_picture, has_squares, holds, is_marked, laid, marks_picture, overlaid, painted, picture_in, picture_of, strips_of, tiles_of, uncovered, world}
 use Rattle.mls_geom.proofs.Holds.{has_squares_lines, holds_common, square_has_squares}
 use Rattle.mls_geom.proofs.StripLists.{strips_are_listed}
 use Rattle.mls_geom.proofs.WholePlanes.{AreStrips-on_space, space}
-use Rattle.mls_tilepool.specs.Pools.{Pool, tiles_of}
-use Rattle.mls_stitch.specs.Areas.{AreInArea, MeetArea}
-use Rattle.mls_stitch.specs.Tilings.{HasPlane, block_at}
-use Rattle.mls_stitch.specs.declared.laid_tile.LaidTile.{LaidTile}
-use Rattle.mls_paint.specs.Planes.{picture_in}
 use Rattle.mls_checker.proofs.Copying.{found-HasPiece}
-use Rattle.mls_errorplane.specs.ErrorPlanes.{marks_picture}
 use Rattle.mls_errorplane.specs.ErrorsIn.{areas_in, marked_part, squares_in}
-use Rattle.mls_errorplane.specs.MarkPlanes.{is_marked}
 
 -- ---- what the pieces show
 -- the tile marks the square

@@ -1,18 +1,7 @@
 -- Findings of the first piece, and what they mark.
 use Rattle.std.proofs.Common.{◌≡◌, ℕ, true, List, length, Some, sym, ap, ◌∙◌}
 use Rattle.std.proofs.lemmas.Option.{same_Some}
-use Rattle.mls_edgerule.specs.declared.edge_rule.EdgeRule.{EdgeRule}
-use Rattle.mls_geom.specs.Layouts.{Layout}
-use Rattle.mls_geom.specs.Rects.{Rect, holds}
-use Rattle.mls_geom.specs.World.{world}
-use Rattle.mls_checker.specs.Copies.{Snapshot, copied_layout}
-use Rattle.mls_checker.specs.Findings.{Finding, IsExact}
-use Rattle.mls_checker.specs.Forbids.{forbidden}
-use Rattle.mls_checker.specs.Marking.{marks}
-use Rattle.mls_checker.specs.ZoneLayouts.{AgreeOutside, within}
-use Rattle.mls_errorplane.specs.Checkings.{Checking}
-use Rattle.mls_errorplane.specs.DirtyLists.{first_piece_of}
-use Rattle.mls_errorplane.specs.Outcomes.{IsFresh}
+use Rattle.mls_errorplane.proofs.Words.{AgreeOutside, Checking, EdgeRule, Finding, IsExact, IsFresh, Layout, Rect, Snapshot, copied_layout, first_piece_of, forbidden, holds, marks, within, world}
 use Rattle.mls_errorplane.proofs.CheckedMarks.{exact-forbidden}
 
 -- the planes are as many as were copied, and show in the zone what was copied

@@ -1,21 +1,14 @@
 -- The marked squares of a rectangle, counted by the tiles that are found in it.
-use Rattle.std.proofs.Common.{◌≡◌, ℕ, suc, ◌+◌, ◌<◌, ◌≤◌, ◌==◌, Bool, ◌&&◌, not, true, false, cond, max, Option, List, [], ◌∷◌, length, get_or, take, All, AllPairs, IsTrue, refl, sym, ap, ◌∙◌, arith}
-use Rattle.std.specs.List.{list_any, sum_by}
+use Rattle.std.proofs.Common.{◌≡◌, ℕ, suc, ◌+◌, ◌<◌, ◌≤◌, ◌==◌, Bool, ◌&&◌, not, true, false, cond, max, Option, List, [], ◌∷◌, length, get_or, take, All, AllPairs, IsTrue, refl, sym, ap, ◌∙◌, arith, sum_by}
+use Rattle.std.specs.List.{list_any}
 use Rattle.std.proofs.lemmas.Bool.{and_from, and_parts, false_from_ne_true}
 use Rattle.std.proofs.lemmas.Bool.Decides.{nat_tests}
 use Rattle.std.proofs.lemmas.List.Elements.{All-contains, All-head, All-tail}
 use Rattle.std.proofs.lemmas.List.Folds.{Any-from_list_any, list_any-from_Any}
 use Rattle.std.proofs.lemmas.List.Sums.{sum_by-cons, sum_by_more_le}
-use Rattle.mls_geom.specs.Rects.{Rect, common, holds, meets, size_of}
-use Rattle.mls_geom.specs.declared.piece.Piece.{Piece}
-use Rattle.mls_tilepool.specs.Pools.{Pool, tiles_of}
-use Rattle.mls_stitch.specs.Areas.{AreInArea, IsFound, MeetArea, comes_first}
-use Rattle.mls_stitch.specs.Tilings.{AreBlocks, HasPlane, block_at}
-use Rattle.mls_stitch.specs.declared.laid_tile.LaidTile.{LaidTile}
+use Rattle.mls_errorplane.proofs.Words.{AreBlocks, AreInArea, HasPlane, IsFound, LaidTile, MeetArea, Piece, Pool, Rect, block_at, comes_first, common, holds, is_marked, marked_count, meets, picture_in, size_of, tiles_of}
 use Rattle.mls_stitch.proofs.Listings.{one_tile}
-use Rattle.mls_paint.specs.Planes.{picture_in}
 use Rattle.mls_checker.proofs.Copying.{found-HasPiece}
-use Rattle.mls_errorplane.specs.MarkPlanes.{is_marked, marked_count}
 use Rattle.mls_errorplane.specs.PaintedMarks.{marked_part}
 use Rattle.mls_errorplane.proofs.CoveredOnce.{count_in-meeting}
 use Rattle.mls_errorplane.proofs.MarkCounts.{same_test}

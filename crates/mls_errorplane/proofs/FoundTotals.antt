@@ -1,17 +1,10 @@
 -- The marked squares of a rectangle, counted by tiles that have as many squares of it together as it has.
-use Rattle.std.proofs.Common.{◌≡◌, ℕ, ◌+◌, ◌≤◌, ◌==◌, Bool, ◌||◌, ◌&&◌, not, true, false, cond, List, get_or, refl, sym, ap, subst, inl, inr, ◌∙◌, arith}
-use Rattle.std.specs.List.{list_any, sum_by}
-use Rattle.std.proofs.lemmas.Bool.{and_from, cases_Bool, or_left, or_right}
+use Rattle.std.proofs.Common.{◌≡◌, ℕ, ◌+◌, ◌≤◌, ◌==◌, Bool, ◌||◌, ◌&&◌, not, true, false, cond, List, get_or, sym, ap, subst, inl, inr, ◌∙◌, arith, sum_by}
+use Rattle.std.specs.List.{list_any}
+use Rattle.std.proofs.lemmas.Bool.{and_from, cases_Bool, or_left, or_right, not_from_false}
 use Rattle.std.proofs.lemmas.List.Folds.{list_any-from_Any}
-use Rattle.mls_geom.specs.Rects.{Rect, IsRectangleIn, common, holds, size_of}
-use Rattle.mls_geom.specs.World.{world}
+use Rattle.mls_errorplane.proofs.Words.{HasPlane, IsRectangleIn, LaidTile, MeetArea, Pool, Rect, block_at, common, holds, is_marked, marked_count, picture_in, size_of, tiles_of, world}
 use Rattle.mls_geom.proofs.InnerRects.{IsRectangleIn-itself}
-use Rattle.mls_tilepool.specs.Pools.{Pool, tiles_of}
-use Rattle.mls_stitch.specs.Areas.{MeetArea}
-use Rattle.mls_stitch.specs.Tilings.{HasPlane, block_at}
-use Rattle.mls_stitch.specs.declared.laid_tile.LaidTile.{LaidTile}
-use Rattle.mls_paint.specs.Planes.{picture_in}
-use Rattle.mls_errorplane.specs.MarkPlanes.{is_marked, marked_count}
 use Rattle.mls_errorplane.specs.PaintedMarks.{marked_part, space_size}
 use Rattle.mls_errorplane.proofs.CoveredOnce.{count_in-common, count_in-list, whole-from-both}
 use Rattle.mls_errorplane.proofs.FoundCounts.{in_tile, in_tiles, marked_by_tiles}
@@ -25,10 +18,6 @@ kind-le e r false = count_in-common e r
 -- the marked squares of tiles are no more than those of each
 marked-le : (r : Rect) (tiles : List LaidTile) → count_in r (in_tiles tiles) ≤ sum_by (marked_part r) tiles
 marked-le r tiles = count_in-list r in_tile (marked_part r) tiles (λ k tile within. kind-le r (get_or tiles k tile).piece.rect ((get_or tiles k tile).piece.kind == 0))
-
-not_of : (b : Bool) → b ≡ false → not b ≡ true
-not_of true none = absurd (cc)
-not_of false none = refl
 
 exactly : (a b m s size : ℕ) → a ≤ m → b ≤ s → m + s ≡ size → size ≤ a + b → a ≡ m
 exactly a b m s size one other all whole = omega (arith, one, other, all, whole)
@@ -45,7 +34,7 @@ marked_count-total pool owner r tiles listed count plane are legal same counted 
     (let (k, t, at, is, held) = are.whole x y inside in
     elim (cases_Bool (t.piece.kind == 0)) [
       | inl is_space ↦ or_right (in_tiles tiles x y) (space x y) (list_any-from_Any (λ (u : LaidTile). in_space u x y) tiles (k, t, at, is, and_from _ _ is_space held))
-      | inr marked ↦ or_left (in_tiles tiles x y) (space x y) (list_any-from_Any (λ (u : LaidTile). in_tile u x y) tiles (k, t, at, is, and_from _ _ (not_of _ marked) held))
+      | inr marked ↦ or_left (in_tiles tiles x y) (space x y) (list_any-from_Any (λ (u : LaidTile). in_tile u x y) tiles (k, t, at, is, and_from _ _ (not_from_false _ marked) held))
     ]) in
     let shown : count_in r (is_marked (picture_in pool owner)) ≡ count_in r (in_tiles tiles) =
     count_in-agree r (is_marked (picture_in pool owner)) (in_tiles tiles) (λ x y inside. marked_by_tiles pool owner r tiles x y plane are inside) in

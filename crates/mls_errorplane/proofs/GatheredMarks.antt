@@ -6,24 +6,12 @@ use Rattle.std.proofs.lemmas.Bool.{and_from, and_parts, false_from_ne_true}
 use Rattle.std.proofs.lemmas.List.Elements.{All-contains}
 use Rattle.std.proofs.lemmas.List.Folds.{Any-from_list_any, list_any-from_Any}
 use Rattle.std.proofs.lemmas.Option.{get_or_from_slice_get, slice_get_read, slice_get_within}
-use Rattle.mls_edgerule.specs.RuleLists.{rule_limit}
-use Rattle.mls_edgerule.specs.RuleSets.{rules_in}
-use Rattle.mls_edgerule.specs.declared.edge_rule.EdgeRule.{EdgeRule}
-use Rattle.mls_geom.specs.Layouts.{Layout}
-use Rattle.mls_geom.specs.Rects.{Rect, IsRectangleIn, common, holds, meets}
-use Rattle.mls_geom.specs.World.{world}
+use Rattle.mls_errorplane.proofs.Words.{Checking, EdgeRule, IsChecked, IsRectangleIn, Layout, Rect, Violation, common, forbidden, forbids, has_bit, holds, is_violated_in, meets, rule_limit, rules_in, squares_in_all, squares_of, violated_rules, violation_of, violations_in, violations_of, world}
 use Rattle.mls_geom.proofs.Ascending.{Contains-filter}
 use Rattle.mls_geom.proofs.Holds.{holds_common, square_has_squares}
 use Rattle.mls_geom.proofs.Squares.{Contains-range_with_len}
-use Rattle.mls_kinds.specs.KindSets.{has_bit}
 use Rattle.mls_kinds.proofs.BitLemmas.{has_bit-bits_where}
-use Rattle.mls_checker.specs.Findings.{is_violated_in, violated_rules}
-use Rattle.mls_checker.specs.Forbids.{forbidden, forbids}
-use Rattle.mls_checker.specs.Marking.{squares_of}
-use Rattle.mls_checker.specs.Violations.{violations_of}
 use Rattle.mls_checker.proofs.FoundInRect.{rect_finds}
-use Rattle.mls_errorplane.specs.Checkings.{Checking, IsChecked}
-use Rattle.mls_errorplane.specs.Violations.{Violation, squares_in_all, violation_of, violations_in}
 use Rattle.mls_errorplane.proofs.PaintedPieces.{holds_inside}
 use Rattle.mls_errorplane.proofs.SetStrips.{squares-set_strips}
 

@@ -1,23 +1,11 @@
 -- What rules forbid in a rectangle, gathered part by part.
 use Rattle.std.proofs.Common.{◌≡◌, ℕ, ◌-◌, Bool, true, false, ◌||◌, ◌&&◌, List, [], ◌∷◌, map, get_or, All, Option, Some, None, slice_get, refl, sym, ap, ◌∙◌}
+use Rattle.std.proofs.Math.Bool.{and-false, and_self_left, or_assoc}
 use Rattle.std.proofs.Math.Path.{fun_ext}
 use Rattle.std.proofs.lemmas.List.Elements.{All-head, All-tail, filter_passes}
 use Rattle.std.proofs.lemmas.Option.{get_or_from_slice_get, slice_get_within}
 use Rattle.std.specs.List.{range_with_len}
-use Rattle.mls_edgerule.specs.RuleLists.{rule_limit}
-use Rattle.mls_edgerule.specs.RuleSets.{rules_in}
-use Rattle.mls_edgerule.specs.declared.edge_rule.EdgeRule.{EdgeRule}
-use Rattle.mls_geom.specs.Layouts.{Layout}
-use Rattle.mls_geom.specs.Rects.{Rect, IsRectangleIn, holds}
-use Rattle.mls_geom.specs.World.{world}
-use Rattle.mls_kinds.specs.KindSets.{has_bit}
-use Rattle.mls_checker.specs.Findings.{violated_rules}
-use Rattle.mls_checker.specs.Forbids.{forbids}
-use Rattle.mls_checker.specs.Halos.{zone_of}
-use Rattle.mls_checker.specs.Marking.{squares_of}
-use Rattle.mls_checker.specs.Violations.{GainSomeViolations, GainViolations, areas_at, violations_of}
-use Rattle.mls_checker.specs.ZoneLayouts.{AgreeOutside, within}
-use Rattle.mls_errorplane.specs.Violations.{Violation, listed_violation, set_strips, squares_within, violation_of, violations_in}
+use Rattle.mls_errorplane.proofs.Words.{AgreeOutside, EdgeRule, GainSomeViolations, GainViolations, IsRectangleIn, Layout, Rect, Violation, areas_at, forbids, has_bit, holds, listed_violation, rule_limit, rules_in, set_strips, squares_of, squares_within, violated_rules, violation_of, violations_in, violations_of, within, world, zone_of}
 use Rattle.mls_errorplane.proofs.ViolatedNear.{forbids-zone}
 
 -- ---- zones
@@ -72,10 +60,6 @@ halves-at None whole one other layout x y squares = refl
 halves-at (Some rule) whole one other layout x y squares =
     ap (λ b. b && forbids rule layout (record { x = x; y = y })) squares ∙ either_at (holds one x y) (holds other x y) (forbids rule layout (record { x = x; y = y }))
 
-or_three : (a b c : Bool) → ((a || b) || c) ≡ (a || (b || c))
-or_three true b c = refl
-or_three false b c = refl
-
 pub GainViolations-halves :
     (rules : List EdgeRule) (set : ℕ) (whole one other : Rect) (layout : Layout) (old start mid new : List (List Rect))
     → ((x y : ℕ) → holds whole x y ≡ (holds one x y || holds other x y)) → GainSomeViolations rules set whole layout old start
@@ -87,7 +71,7 @@ GainViolations-halves rules set whole one other layout old start mid new squares
       let was = squares_of (areas_at start k) x y in
       let v_one = violations_of rule one layout x y in
       let v_other = violations_of rule other layout x y in
-      second.squares k there x y ∙ ap (λ b. b || v_other) (first.squares k there x y) ∙ or_three was v_one v_other
+      second.squares k there x y ∙ ap (λ b. b || v_other) (first.squares k there x y) ∙ or_assoc was v_one v_other
       ∙ ap (λ b. was || b) (sym (halves-at rule whole one other layout x y (squares x y))) ∙ some.squares k there x y;
 }
 
@@ -96,17 +80,9 @@ map-same : {X Y : Type 0} (f g : X → Y) (xs : List X) → All (λ x. f x ≡ g
 map-same f g [] same = refl
 map-same f g (x ∷ xs) same = ap (λ y. y ∷ map f xs) (All-head (λ z. f z ≡ g z) x xs same) ∙ ap (λ ys. g x ∷ ys) (map-same f g xs (All-tail (λ z. f z ≡ g z) x xs same))
 
-within_twice : (inside forbidden : Bool) → (inside && (inside && forbidden)) ≡ (inside && forbidden)
-within_twice true forbidden = refl
-within_twice false forbidden = refl
-
-never_within : (inside : Bool) → (inside && false) ≡ false
-never_within true = refl
-never_within false = refl
-
 within-at : (rule : Option EdgeRule) (rect : Rect) (layout : Layout) (x y : ℕ) → (holds rect x y && violations_of rule rect layout x y) ≡ violations_of rule rect layout x y
-within-at None rect layout x y = never_within (holds rect x y)
-within-at (Some rule) rect layout x y = within_twice (holds rect x y) (forbids rule layout (record { x = x; y = y }))
+within-at None rect layout x y = and-false (holds rect x y)
+within-at (Some rule) rect layout x y = and_self_left (holds rect x y) (forbids rule layout (record { x = x; y = y }))
 
 -- where no rule forbids a square, the list is empty
 pub violations-none : (rules : List EdgeRule) (rect : Rect) (layout : Layout) (set : ℕ) → set ≡ violated_rules rules rect layout → rules_in set ≡ [] → violations_in rules rect layout ≡ []

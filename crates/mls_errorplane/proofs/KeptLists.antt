@@ -2,11 +2,9 @@
 use Rattle.std.proofs.Common.{◌≡◌, ◌<◌, Bool, true, false, cond, List, [], ◌∷◌, ◌++◌, length, All, refl, inl, inr, subst, sym, arith}
 use Rattle.std.proofs.lemmas.Bool.{cases_lt}
 use Rattle.std.proofs.lemmas.List.Elements.{All-append, All-cons, All-head, All-nil, All-tail}
-use Rattle.mls_geom.specs.Rects.{Rect, IsRectangleIn, has_squares, joined}
-use Rattle.mls_geom.specs.World.{world}
+use Rattle.mls_errorplane.proofs.Words.{IsDirtyList, IsRectangleIn, Rect, dropped, has_squares, joined, most_areas, rest_above, rest_beside, round_all, united, world}
 use Rattle.mls_geom.proofs.Holds.{has_squares_lines}
 use Rattle.mls_geom.proofs.JoinedRects.{joined-IsRectangleIn}
-use Rattle.mls_errorplane.specs.DirtyLists.{IsDirtyList, dropped, most_areas, rest_above, rest_beside, round_all, united}
 
 -- the rests of an area lie where it lies
 beside_in : (extent area : Rect) → IsRectangleIn extent area → has_squares (rest_beside area) ≡ true → IsRectangleIn extent (rest_beside area)

@@ -38,3 +38,4 @@ pub mod StretchSteps
 pub mod ToldSquares
 pub mod ViolatedNear
 pub mod ViolatedParts
+pub mod Words

@@ -1,13 +1,9 @@
 -- Pieces for the squares that areas have of a part.
 use Rattle.std.proofs.Common.{◌≡◌, ℕ, ◌+◌, ◌<◌, Bool, ◌||◌, true, false, List, [], ◌∷◌, ◌++◌, length, length-append, get_or, take, refl, sym, ap, subst, ◌∙◌, arith}
 use Rattle.std.proofs.lemmas.List.Folds.{list_any_more}
-use Rattle.mls_checker.specs.Marking.{SquareSet, squares_of}
-use Rattle.mls_geom.specs.Rects.{Rect, IsRectangleIn, common, has_squares, holds}
-use Rattle.mls_geom.specs.World.{world}
-use Rattle.mls_geom.specs.declared.piece.Piece.{Piece}
+use Rattle.mls_errorplane.proofs.Words.{IsRectangleIn, Paints, Piece, Rect, SquareSet, common, has_squares, holds, squares_of, world}
 use Rattle.mls_geom.proofs.Holds.{has_squares_lines}
 use Rattle.mls_geom.proofs.InnerRects.{IsRectangleIn-itself}
-use Rattle.mls_errorplane.specs.PaintedMarks.{Paints}
 use Rattle.mls_errorplane.proofs.CoveredOnce.{in_common, not_common}
 use Rattle.mls_errorplane.proofs.PaintedPieces.{Paints-agree, Paints-push}
 

@@ -1,14 +1,9 @@
 -- Pieces that mark more and more squares.
 use Rattle.std.proofs.Common.{◌≡◌, ℕ, Bool, ◌||◌, true, false, cond, List, [], ◌∷◌, ◌++◌, refl, ap, ◌∙◌, arith}
 use Rattle.std.proofs.Math.Path.{fun_ext}
-use Rattle.mls_checker.specs.Marking.{SquareSet}
-use Rattle.mls_geom.specs.Pictures.{Picture, overlaid}
-use Rattle.mls_geom.specs.Rects.{Rect, IsRectangleIn, holds}
-use Rattle.mls_geom.specs.declared.piece.Piece.{Piece}
+use Rattle.mls_errorplane.proofs.Words.{IsRectangleIn, Paints, Picture, Piece, Rect, SquareSet, holds, overlaid, remarked}
 use Rattle.mls_geom.proofs.Holds.{between_holds, holds_between}
 use Rattle.mls_geom.proofs.Overlays.{overlaid_append}
-use Rattle.mls_errorplane.specs.MarkPlanes.{remarked}
-use Rattle.mls_errorplane.specs.PaintedMarks.{Paints}
 
 -- a square of one more rectangle is marked
 push_at : (in_run in_rect in_set : Bool) (kind : ℕ) → (in_run ≡ true → in_rect ≡ true) → cond in_run 1 (cond in_rect (cond in_set 1 0) kind) ≡ cond in_rect (cond (in_set || in_run) 1 0) kind

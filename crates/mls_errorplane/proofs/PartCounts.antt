@@ -3,24 +3,14 @@ use Rattle.std.proofs.Common.{◌≡◌, ℕ, ◌<◌, ◌≤◌, max, not, true
 use Rattle.std.proofs.lemmas.Bool.{and_parts, cases_lt}
 use Rattle.std.proofs.lemmas.List.{get_or-map, length-map}
 use Rattle.std.proofs.lemmas.List.Elements.{All-contains, All-map}
-use Rattle.mls_geom.specs.Pictures.{Picture}
-use Rattle.mls_geom.specs.Rects.{Rect, holds}
-use Rattle.mls_geom.specs.Strips.{IsStrip}
-use Rattle.mls_geom.specs.TileCounts.{goes_on_below, is_corner, starts_run, tile_count}
-use Rattle.mls_geom.specs.World.{world}
-use Rattle.mls_geom.specs.declared.piece.Piece.{Piece}
+use Rattle.mls_errorplane.specs.Words.{HasStrips, IsStrip, LaidTile, MeetArea, Picture, Piece, Pool, Rect, block_at, blocks_of, goes_on_below, holds, is_corner, picture_in, starts_run, tile_count, tiles_of, world}
 use Rattle.mls_geom.proofs.Ascending.{Contains-map}
 use Rattle.mls_geom.proofs.Corners.{corner-IsStrip}
 use Rattle.mls_geom.proofs.Holds.{between_holds, holds_between}
 use Rattle.mls_geom.proofs.RunTests.{left-starts_run}
 use Rattle.mls_geom.proofs.StripLaws.{All-corners, corners, corners_ascend, length-corners}
 use Rattle.mls_geom.proofs.UnorderedStrips.{once_from_order, squares-le, unordered_strips_number}
-use Rattle.mls_tilepool.specs.Pools.{Pool, tiles_of}
-use Rattle.mls_stitch.specs.Areas.{MeetArea}
-use Rattle.mls_stitch.specs.Tilings.{block_at, blocks_of}
-use Rattle.mls_stitch.specs.declared.laid_tile.LaidTile.{LaidTile}
 use Rattle.mls_stitch.proofs.MaximalTiles.{strip-IsMaximal}
-use Rattle.mls_paint.specs.Planes.{HasStrips, picture_in}
 use Rattle.mls_errorplane.proofs.StairCorners.{from_row, is_corner-from_row}
 
 -- ---- strips

@@ -1,14 +1,10 @@
 -- Numbers of squares in a rectangle of an extent.
-use Rattle.std.proofs.Common.{◌≡◌, ℕ, ◌+◌, ◌-◌, ◌<◌, ◌≤◌, ◌==◌, Bool, ◌||◌, ◌&&◌, not, true, false, cond, refl, sym, ap, ◌∙◌, arith}
-use Rattle.std.specs.List.{range_with_len, sum_by}
+use Rattle.std.proofs.Common.{◌≡◌, ℕ, ◌+◌, ◌-◌, ◌<◌, ◌≤◌, ◌==◌, Bool, ◌||◌, ◌&&◌, not, true, false, cond, refl, sym, ap, ◌∙◌, arith, sum_by}
+use Rattle.std.specs.List.{range_with_len}
 use Rattle.std.proofs.lemmas.Bool.{cond-false}
-use Rattle.mls_geom.specs.Pictures.{Picture, columns, empty_picture}
-use Rattle.mls_geom.specs.Rects.{Rect, IsRectangleIn, holds}
-use Rattle.mls_geom.specs.World.{world}
-use Rattle.mls_checker.specs.Marking.{SquareSet, square_count}
+use Rattle.mls_errorplane.proofs.Words.{IsRectangleIn, Picture, Rect, SquareSet, columns, empty_picture, holds, is_marked, marked_count, remarked, square_count, world}
 use Rattle.mls_geom.proofs.CornerCounts.{sum_by-between, sum_by-none}
 use Rattle.mls_geom.proofs.Holds.{between_holds, holds_between}
-use Rattle.mls_errorplane.specs.MarkPlanes.{is_marked, marked_count, remarked}
 use Rattle.mls_errorplane.proofs.RangeSums.{sum_by-agree}
 use Rattle.mls_errorplane.proofs.SquareCounts.{bit, count_in, count_in-agree, count_in-apart, count_in-none}
 

@@ -1,20 +1,14 @@
 -- The strips of a set of squares, found as the strips of pieces that cover them.
-use Rattle.std.proofs.Common.{◌≡◌, ◌≢◌, ℕ, cond, ◌+◌, ◌++◌, take, true≢false, ◌<◌, ◌==◌, Bool, true, false, if◌then◌else◌, ◌-◌, [], ◌∷◌, ◌||◌, ◌&&◌, IsTrue, List, map, filter, length, get_or, All, Any, Contains, refl, sym, ap, subst, ◌∙◌, le_refl, arith}
+use Rattle.std.proofs.Common.{◌≡◌, ◌≢◌, ℕ, cond, ◌+◌, ◌++◌, take, true≢false, ◌<◌, ◌==◌, Bool, true, false, if◌then◌else◌, ◌-◌, [], ◌∷◌, ◌||◌, ◌&&◌, IsTrue, List, map, filter, length, get_or, All, Any, Contains, refl, sym, ap, subst, ◌∙◌, le_refl, arith, eq-eqb, eqb-true}
 use Rattle.std.specs.Cmp.{both_ways}
 use Rattle.std.specs.List.{list_any}
-use Rattle.std.proofs.lemmas.Bool.{and_from, and_parts, eq-eqb, eqb-true, false_from_ne_true}
+use Rattle.std.proofs.lemmas.Bool.{and_from, and_parts, false_from_ne_true}
 use Rattle.std.proofs.lemmas.Bool.Decides.{nat_tests}
 use Rattle.std.proofs.lemmas.List.{length-map}
 use Rattle.std.proofs.lemmas.List.Elements.{All-contains, All-filter, filter_passes}
 use Rattle.std.proofs.lemmas.List.Folds.{Any-from_list_any, list_any-from_Any, list_any_more}
 use Rattle.std.proofs.lemmas.List.Kept.{AllPairs-filter}
-use Rattle.mls_geom.specs.Locality.{AreCoveredStrips, covered_count, laid, uncovered}
-use Rattle.mls_geom.specs.Pictures.{Picture}
-use Rattle.mls_geom.specs.Rects.{Rect, common, has_squares, holds}
-use Rattle.mls_geom.specs.StripLists.{strips_of}
-use Rattle.mls_geom.specs.Strips.{IsRun, IsStrip, comes_before}
-use Rattle.mls_geom.specs.World.{world}
-use Rattle.mls_geom.specs.declared.piece.Piece.{Piece}
+use Rattle.mls_errorplane.proofs.Words.{AreCoveredStrips, Covers, IsRun, IsStrip, Picture, Piece, Rect, SquareSet, comes_before, common, covered_count, has_squares, holds, laid, marks_picture, set_strips, squares_of, squares_within, strips_of, uncovered, world}
 use Rattle.mls_geom.proofs.Ascending.{Contains-filter, same_ascending}
 use Rattle.mls_geom.proofs.CoveredCounts.{covered_strips_number}
 use Rattle.mls_geom.proofs.Holds.{between_holds, holds_common, square_has_squares}
@@ -22,10 +16,7 @@ use Rattle.mls_geom.proofs.ListedStrips.{AreStrips-strips_of}
 use Rattle.mls_geom.proofs.Overlays.{overlaid_append}
 use Rattle.mls_geom.proofs.StripPictures.{holds-IsStrip, kind-IsStrip}
 use Rattle.mls_geom.proofs.TouchedStrips.{one_strip}
-use Rattle.mls_checker.specs.Marking.{SquareSet, squares_of}
-use Rattle.mls_errorplane.specs.ErrorPlanes.{marks_picture}
 use Rattle.mls_errorplane.proofs.CheckedMarks.{mark_kind}
-use Rattle.mls_errorplane.specs.Violations.{Covers, set_strips, squares_within}
 
 -- ---- two lists of the strips of what is covered are one
 abbrev IsCoveredStrip : Rect → Picture → Piece → Type 0
@@ -78,6 +69,19 @@ in_marked : (b : Bool) → b ≡ true → mark_kind b ≡ 1
 in_marked true is = refl
 in_marked false is = absurd (cc)
 
+-- where another picture has a run's kind at the same squares, it is a run there too
+IsRun-same :
+    (extent : Rect) (one other : Picture) (left right y kind : ℕ) → ((x : ℕ) → one x y ≡ kind → other x y ≡ kind) → ((x : ℕ) → other x y ≡ kind → one x y ≡ kind)
+    → IsRun extent one left right y kind → IsRun extent other left right y kind
+IsRun-same extent one other left right y kind there back run = record {
+  from = run.from;
+  wide = run.wide;
+  to = run.to;
+  one_kind = λ x from below. there x (run.one_kind x from below);
+  ends_left = λ inside same. run.ends_left inside (back (left - 1) same);
+  ends_right = λ inside same. run.ends_right inside (back right same);
+}
+
 module _ (extent : Rect) (set : SquareSet) (picture : Picture) (covers : Covers picture set) where
   shown : (x y kind : ℕ) → kind ≡ 1 → marks_picture set x y ≡ kind → picture x y ≡ kind
   shown x y kind one is = covers x y ∙ one_covered (set x y) (is ∙ one) ∙ sym one
@@ -85,38 +89,19 @@ module _ (extent : Rect) (set : SquareSet) (picture : Picture) (covers : Covers 
   marked : (x y kind : ℕ) → kind ≡ 1 → picture x y ≡ kind → marks_picture set x y ≡ kind
   marked x y kind one is = one_marked (set x y) (sym (covers x y) ∙ is ∙ one) ∙ sym one
 
-  IsRun-covered : (left right y kind : ℕ) → kind ≡ 1 → IsRun extent (marks_picture set) left right y kind → IsRun extent picture left right y kind
-  IsRun-covered left right y kind one run = record {
-    from = run.from;
-    wide = run.wide;
-    to = run.to;
-    one_kind = λ x from below. shown x y kind one (run.one_kind x from below);
-    ends_left = λ inside same. run.ends_left inside (marked (left - 1) y kind one same);
-    ends_right = λ inside same. run.ends_right inside (marked right y kind one same);
-  }
-
-  IsRun-marked : (left right y kind : ℕ) → kind ≡ 1 → IsRun extent picture left right y kind → IsRun extent (marks_picture set) left right y kind
-  IsRun-marked left right y kind one run = record {
-    from = run.from;
-    wide = run.wide;
-    to = run.to;
-    one_kind = λ x from below. marked x y kind one (run.one_kind x from below);
-    ends_left = λ inside same. run.ends_left inside (shown (left - 1) y kind one same);
-    ends_right = λ inside same. run.ends_right inside (shown right y kind one same);
-  }
-
   -- the strips of marked squares are strips of what is covered
   IsStrip-covered : (piece : Piece) → piece.kind ≡ 1 → IsStrip extent (marks_picture set) piece → IsStrip extent picture piece
   IsStrip-covered piece one strip =
       let left = piece.rect.left in
       let right = piece.rect.right in
+      let covered = λ (y : ℕ) (run : IsRun extent picture left right y piece.kind). IsRun-same extent picture (marks_picture set) left right y piece.kind (λ x. marked x y piece.kind one) (λ x. shown x y piece.kind one) run in
       record {
         from = strip.from;
         tall = strip.tall;
         to = strip.to;
-        rows = λ y above below. IsRun-covered left right y piece.kind one (strip.rows y above below);
-        ends_below = λ inside run. strip.ends_below inside (IsRun-marked left right (piece.rect.bottom - 1) piece.kind one run);
-        ends_above = λ inside run. strip.ends_above inside (IsRun-marked left right piece.rect.top piece.kind one run);
+        rows = λ y above below. IsRun-same extent (marks_picture set) picture left right y piece.kind (λ x. shown x y piece.kind one) (λ x. marked x y piece.kind one) (strip.rows y above below);
+        ends_below = λ inside run. strip.ends_below inside (covered (piece.rect.bottom - 1) run);
+        ends_above = λ inside run. strip.ends_above inside (covered piece.rect.top run);
       }
 
   abbrev is_marked_strip : Piece → Bool
@@ -178,26 +163,23 @@ pub length-set_strips : (set : SquareSet) (pieces : List Piece) → Covers (laid
 unfolding set_strips
 length-set_strips set pieces covers = length-map _ (λ (piece : Piece). piece.rect) ∙ count-marked world set (laid pieces) covers
 
--- the set's squares as marks
-abbrev picture_with : SquareSet → Picture
-picture_with set x y = if set x y then 1 else uncovered
-
 -- the strips have the squares of the set that lie in the world
 pub squares-set_strips : (set : SquareSet) (x y : ℕ) → squares_of (set_strips set) x y ≡ (holds world x y && set x y)
 unfolding set_strips
 squares-set_strips set x y =
     let strips = filter (λ (piece : Piece). piece.kind == 1) (strips_of world (marks_picture set)) in
     let rects = map (λ (piece : Piece). piece.rect) strips in
-    let covers : Covers (picture_with set) set = λ u v. refl in
+    let picture : Picture = λ u v. cover_kind (set u v) in
+    let covers : Covers picture set = λ u v. refl in
     both_ways (squares_of rects x y) (holds world x y && set x y)
     (λ some.
     let found = Any-from_list_any (λ (piece : Piece). holds piece.rect x y) strips (sym (list_any-map (λ (e : Rect). holds e x y) strips) ∙ some) in
-    let (inside, there) = marked_squares world set (picture_with set) covers x y found in
+    let (inside, there) = marked_squares world set picture covers x y found in
     and_from (holds world x y) (set x y) inside there)
     (λ both.
     let (inside, there) = and_parts (holds world x y) (set x y) both in
     list_any-map (λ (e : Rect). holds e x y) strips
-    ∙ list_any-from_Any (λ (piece : Piece). holds piece.rect x y) strips (marked_whole world set (picture_with set) covers x y inside (in_marked (set x y) there)))
+    ∙ list_any-from_Any (λ (piece : Piece). holds piece.rect x y) strips (marked_whole world set picture covers x y inside (in_marked (set x y) there)))
   where
     list_any-map : (test : Rect → Bool) (pieces : List Piece) → list_any test (map (λ (piece : Piece). piece.rect) pieces) ≡ list_any (λ (piece : Piece). test piece.rect) pieces
     list_any-map test [] = refl

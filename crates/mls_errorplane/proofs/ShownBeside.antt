@@ -3,21 +3,10 @@ use Rattle.std.proofs.Common.{◌≡◌, ℕ, ◌+◌, ◌-◌, ◌<◌, true, i
 use Rattle.std.proofs.Math.Path.{fun_ext}
 use Rattle.std.proofs.lemmas.Bool.{both_ways, cases_Bool, cond-false, cond-true, false_from_ne_true}
 use Rattle.std.proofs.lemmas.List.Elements.{All-contains, All-push}
-use Rattle.mls_geom.specs.Pictures.{overlaid}
-use Rattle.mls_geom.specs.declared.piece.Piece.{Piece}
-use Rattle.mls_geom.specs.Rects.{Rect, IsRectangleIn, IsWithin, has_squares, holds}
+use Rattle.mls_errorplane.proofs.Words.{Finding, HasPlane, IsRectangleIn, IsWithin, LaidTile, Marks, MeetArea, Paints, Piece, Pool, Rect, ShowsBeside, SquareSet, block_at, has_squares, holds, marks, overlaid, picture_in, remarked, tiles_of}
 use Rattle.mls_geom.proofs.Holds.{between_holds, has_squares_lines, holds_between}
-use Rattle.mls_tilepool.specs.Pools.{Pool, tiles_of}
-use Rattle.mls_stitch.specs.Areas.{MeetArea}
-use Rattle.mls_stitch.specs.Tilings.{HasPlane, block_at}
-use Rattle.mls_stitch.specs.declared.laid_tile.LaidTile.{LaidTile}
-use Rattle.mls_paint.specs.Planes.{picture_in}
-use Rattle.mls_checker.specs.Findings.{Finding}
-use Rattle.mls_checker.specs.Marking.{Marks, SquareSet, marks}
 use Rattle.mls_checker.proofs.Copying.{found-HasPiece}
 use Rattle.mls_checker.proofs.Prefixes.{take_next}
-use Rattle.mls_errorplane.specs.MarkPlanes.{remarked}
-use Rattle.mls_errorplane.specs.PaintedMarks.{Paints, ShowsBeside}
 use Rattle.mls_errorplane.proofs.PaintedPieces.{holds_inside, overlaid-part}
 
 -- ---- areas

@@ -1,22 +1,12 @@
 -- Tiles that show a set of squares already.
-use Rattle.std.proofs.Common.{◌≡◌, ◌≢◌, ℕ, ◌+◌, ◌≤◌, ◌==◌, Bool, ◌||◌, ◌&&◌, true, false, cond, if◌then◌else◌, true≢false, inl, inr, List, get_or, All, Any, IsTrue, Result, Ok, Err, OnOk, eq-eqb, eqb-true, refl, sym, ap, subst, ◌∙◌, arith}
-use Rattle.std.specs.List.{list_any, sum_by}
+use Rattle.std.proofs.Common.{◌≡◌, ◌≢◌, ℕ, ◌+◌, ◌≤◌, ◌==◌, Bool, ◌||◌, ◌&&◌, true, false, cond, if◌then◌else◌, true≢false, inl, inr, List, get_or, All, Any, IsTrue, Result, Ok, Err, OnOk, eq-eqb, eqb-true, refl, sym, ap, subst, ◌∙◌, arith, sum_by}
+use Rattle.std.specs.List.{list_any}
 use Rattle.std.proofs.Math.Path.{fun_ext}
 use Rattle.std.proofs.lemmas.Bool.{and_from, cases_Bool, cond-false, cond-true, or_left, or_right}
 use Rattle.std.proofs.lemmas.List.Elements.{All-contains}
 use Rattle.std.proofs.lemmas.List.Folds.{list_any_at, list_any-from_Any}
-use Rattle.mls_geom.specs.Pictures.{Picture}
-use Rattle.mls_geom.specs.Rects.{Rect, common, holds, size_of}
-use Rattle.mls_tilepool.specs.Pools.{Pool, tiles_of}
-use Rattle.mls_stitch.specs.Areas.{MeetArea}
-use Rattle.mls_stitch.specs.Tilings.{HasPlane, block_at}
-use Rattle.mls_stitch.specs.declared.laid_tile.LaidTile.{LaidTile}
-use Rattle.mls_paint.specs.Planes.{picture_in}
-use Rattle.mls_checker.specs.Findings.{Finding}
-use Rattle.mls_checker.specs.Marking.{Marks, SquareSet, marks, square_count}
+use Rattle.mls_errorplane.proofs.Words.{Finding, HasPlane, IsSettled, LaidTile, Marks, MeetArea, Picture, Pool, Rect, ShowsSet, SquareSet, block_at, common, holds, marks, picture_in, remarked, size_of, space_size, square_count, tiles_of}
 use Rattle.mls_checker.proofs.Copying.{found-HasPiece}
-use Rattle.mls_errorplane.specs.MarkPlanes.{remarked}
-use Rattle.mls_errorplane.specs.PaintedMarks.{IsSettled, ShowsSet, space_size}
 use Rattle.mls_errorplane.proofs.CoveredOnce.{apart-from_counts, count_in-common, count_in-list}
 use Rattle.mls_errorplane.proofs.SquareCounts.{count_in, count_in-none}
 

@@ -1,32 +1,17 @@
 -- Check steps one after another: what they keep, and that they come to an end.
 use Rattle.std.proofs.Common.{◌≡◌, ◌≢◌, ℕ, zero, suc, ◌+◌, ◌*◌, ◌^◌, ◌<◌, ◌≤◌, List, [], ◌∷◌, length, get_or, Option, None, IfSome, refl, sym, ap, subst, arith}
-use Rattle.mls_edgerule.specs.declared.edge_rule.EdgeRule.{EdgeRule}
-use Rattle.mls_geom.specs.Layouts.{Layout}
-use Rattle.mls_geom.specs.Rects.{Rect}
-use Rattle.mls_tilepool.specs.Pools.{Pool}
-use Rattle.mls_stitch.specs.Tilings.{ChangesOnly, shown}
+use Rattle.mls_errorplane.proofs.Words.{AfterSteps, CaughtUp, ChangesAmong, ChangesOnly, Checking, EdgeRule, FitsWorkspace, HasCaughtUp, HasLayout, HasStepped, IsChecked, IsDirtyList, Layout, Library, Pool, Rect, StandsApart, Stepped, Steps, UnlessDone, Uses, area_of, dropped, first_piece_of, flat_layout, shown, tile_room}
 use Rattle.mls_stitch.proofs.Laying.{room_of-ChangesOnly}
 use Rattle.mls_stitch.proofs.OtherPlanes.{HasPlane-ChangesOnly}
-use Rattle.mls_paint.specs.Owners.{ChangesAmong}
 use Rattle.mls_paint.proofs.OwnerFrames.{ChangesAmong-ChangesOnly, layout_in-kept}
-use Rattle.mls_library.specs.Libraries.{Library}
-use Rattle.mls_layout.specs.Uses.{HasLayout, flat_layout}
-use Rattle.mls_layout.specs.Workspaces.{FitsWorkspace, tile_room}
-use Rattle.mls_layout.specs.declared.uses.Uses.{Uses}
 use Rattle.mls_layout.proofs.FlatLayouts.{HasCells-ChangesAmong, flat_layout-ChangesAmong}
-use Rattle.mls_errorplane.specs.CatchingUp.{AfterSteps, HasCaughtUp, Steps}
-use Rattle.mls_errorplane.specs.Checkings.{Checking, IsChecked}
-use Rattle.mls_errorplane.specs.DirtyLists.{IsDirtyList, area_of, dropped, first_piece_of}
-use Rattle.mls_errorplane.specs.ErrorPlanes.{HasStepped, StandsApart, UnlessDone}
-use Rattle.mls_errorplane.specs.declared.catching_up.CaughtUp.{CaughtUp}
 use Rattle.mls_errorplane.specs.declared.catching_up.CaughtUp.TheVariants as caught_up
-use Rattle.mls_errorplane.specs.declared.error_plane.Stepped.{Stepped}
 use Rattle.mls_errorplane.specs.declared.error_plane.Stepped.TheVariants as stepped
 use Rattle.mls_errorplane.proofs.AreaSizes.{area_of-dropped-less}
 use Rattle.mls_errorplane.proofs.CheckedSquares.{step-IsChecked}
 
 -- ---- states
-Steps-IsChecked :
+pub Steps-IsChecked :
     (rules : List EdgeRule) (layout : Layout) (limit count : ℕ) (old new : Checking) → Steps rules layout limit count old new
     → IsChecked rules layout old → IsChecked rules layout new
 Steps-IsChecked rules layout limit zero old new same right = subst (IsChecked rules layout) (sym same) right
@@ -40,7 +25,7 @@ pub AfterSteps-IsChecked :
 AfterSteps-IsChecked rules layout limit old new (count, steps) right = Steps-IsChecked rules layout limit count old new steps right
 
 -- ---- how many squares await checking
-smaller : (areas : List Rect) → IsDirtyList areas → areas ≢ [] → area_of (dropped areas) < area_of areas
+pub smaller : (areas : List Rect) → IsDirtyList areas → areas ≢ [] → area_of (dropped areas) < area_of areas
 smaller [] kept some = absurd (some refl)
 smaller (first ∷ rest) kept some = area_of-dropped-less first rest (kept.legal 0 first (omega arith))
 

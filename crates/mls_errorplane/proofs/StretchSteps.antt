@@ -3,42 +3,17 @@ use Rattle.std.proofs.Common.{◌≡◌, ◌≢◌, ℕ, zero, suc, ◌+◌, ◌
 use Rattle.std.specs.Option.{IsSomeAnd}
 use Rattle.std.proofs.Math.Path.{fun_ext}
 use Rattle.std.proofs.lemmas.Bool.{cases_Bool, cond-false, cond-true}
-use Rattle.mls_edgerule.specs.declared.edge_rule.EdgeRule.{EdgeRule}
-use Rattle.mls_geom.specs.Layouts.{Layout}
-use Rattle.mls_geom.specs.Pictures.{Picture}
-use Rattle.mls_geom.specs.Rects.{Rect, IsRectangleIn, holds, joined}
-use Rattle.mls_geom.specs.World.{world}
-use Rattle.mls_geom.proofs.Holds.{between_holds, holds_between}
+use Rattle.mls_errorplane.proofs.Words.{AreRight, AreRightIn, Checked, Checking, DropsIn, EdgeRule, ErrorPlane, Finding, HasFinished, HasStepped, HasStrips, IsAlike, IsDirtyList, IsRectangleIn, Layout, Likeness, Outcome, Picture, Pool, Rect, ShowsAlike, ShowsMarks, SquareSet, Steps, Tells, area_of, check_step, checked_marks, dropped, exceeds, first_piece_of, forbidden, holds, is_marked, joined, like_column, like_row, marked_count, marks_picture, picture_in, piece_of, world}
 use Rattle.mls_geom.proofs.JoinedRects.{holds-joined_one, holds-joined_other, joined-IsRectangleIn}
-use Rattle.mls_tilepool.specs.Pools.{Pool}
-use Rattle.mls_paint.specs.Planes.{HasStrips, picture_in}
-use Rattle.mls_checker.specs.Forbids.{forbidden}
-use Rattle.mls_checker.specs.Findings.{Finding}
-use Rattle.mls_checker.specs.Marking.{SquareSet}
 use Rattle.mls_layout.proofs.LentPlanes.{lent, lent-same}
-use Rattle.mls_errorplane.specs.CatchingUp.{Steps}
-use Rattle.mls_errorplane.specs.Checkings.{Checking, check_step, checked_marks}
-use Rattle.mls_errorplane.specs.DirtyLists.{IsDirtyList, area_of, dropped, first_piece_of, piece_of}
-use Rattle.mls_errorplane.specs.ErrorPlanes.{ErrorPlane, HasStepped, ShowsMarks, exceeds, marks_picture}
-use Rattle.mls_errorplane.specs.MarkPlanes.{is_marked, marked_count}
-use Rattle.mls_errorplane.specs.Outcomes.{HasFinished}
-use Rattle.mls_layout.specs.Likenesses.{ShowsAlike, like_column, like_row}
-use Rattle.mls_errorplane.specs.Stretches.{AreRight, AreRightIn, DropsIn, IsAlike, Tells}
-use Rattle.mls_errorplane.specs.declared.checked.Checked.{Checked}
 use Rattle.mls_errorplane.specs.declared.error_plane.Stepped.TheVariants as stepped
-use Rattle.mls_errorplane.specs.declared.error_plane.Outcome.{Outcome}
 use Rattle.mls_errorplane.specs.declared.error_plane.Outcome.TheVariants.{Finished, Full, Stale}
-use Rattle.mls_layout.specs.declared.likeness.Likeness.{Likeness}
 use Rattle.mls_errorplane.proofs.AlikeLayouts.{forbidden-alike}
 use Rattle.mls_errorplane.proofs.AreaSizes.{area_of-dropped-less}
+use Rattle.mls_errorplane.proofs.CheckedMarks.{checking_with}
 use Rattle.mls_errorplane.proofs.KeptLists.{IsDirtyList-dropped}
+use Rattle.mls_errorplane.proofs.PaintedPieces.{holds_inside}
 use Rattle.mls_layout.proofs.LikeSquares.{alike-same, grown-holds, like_column-again, like_row-again}
-
--- a square of a rectangle in another one is one of that
-pub inner_holds : (outer e : Rect) (x y : ℕ) → IsRectangleIn outer e → holds e x y ≡ true → holds outer x y ≡ true
-inner_holds outer e x y inside here =
-    let lines = holds_between e x y here in
-    between_holds outer x y (omega (arith, inside.left_in, lines.0)) (omega (arith, inside.right_in, lines.1)) (omega (arith, inside.bottom_in, lines.2)) (omega (arith, inside.top_in, lines.3))
 
 -- ---- steps
 pub Steps-then :
@@ -47,9 +22,6 @@ pub Steps-then :
 Steps-then rules layout limit few zero old mid new first same = rw add-zero (subst (Steps rules layout limit few old) (sym same) first)
 Steps-then rules layout limit few (suc more) old mid new first (last, steps, step) =
     rw add-suc (last, Steps-then rules layout limit few more old mid last first steps, step)
-
-abbrev pub checking_with : SquareSet → List Rect → Checking
-checking_with marks dirty = record { marks = marks; dirty = dirty }
 
 -- marks that are right in a piece stay as they are when it is checked
 checked_marks-right : (rules : List EdgeRule) (layout : Layout) (piece : Rect) (marks : SquareSet) → AreRight rules layout marks piece → checked_marks rules layout (Some piece) marks ≡ marks
@@ -76,7 +48,7 @@ HasStepped-right :
     → new ≡ dropped mid → AreRight rules layout marks rect → exceeds limit marks ≡ false → HasStepped rules layout limit (checking_with marks mid) stepped.Done (checking_with marks new)
 HasStepped-right rules layout limit rect marks [] new inside is right fits = absurd inside
 HasStepped-right rules layout limit rect marks (first ∷ rest) new inside is right fits =
-    let same = checked_marks-right rules layout (piece_of first) marks (λ x y here. right x y (inner_holds rect (piece_of first) x y inside here)) in (
+    let same = checked_marks-right rules layout (piece_of first) marks (λ x y here. right x y (holds_inside rect (piece_of first) x y inside here)) in (
       not_empty first rest,
       ap (exceeds limit) same ∙ fits,
       ap (checking_with marks) is ∙ ap (λ (m : SquareSet). checking_with m (dropped (first ∷ rest))) (sym same),
@@ -137,7 +109,7 @@ right-alike :
     → is_marked picture a b ≡ forbidden rules layout a b → is_marked picture x y ≡ forbidden rules layout x y
 right-alike rules layout picture likeness rect x y a b legal alike marks column row here there right =
     ap (λ kind. not (kind == 0)) (alike-same likeness 0 rect picture x y a b marks column row (grown-holds 0 rect x y here) (grown-holds 0 rect a b there)) ∙ right
-    ∙ sym (forbidden-alike rules layout likeness rect x y a b alike column row here there (inner_holds world rect x y legal here) (inner_holds world rect a b legal there))
+    ∙ sym (forbidden-alike rules layout likeness rect x y a b alike column row here there (holds_inside world rect x y legal here) (holds_inside world rect a b legal there))
 
 -- so marks that are right in one rectangle are right in another, if it has the squares that show what those of the other show, and the likeness is round both together
 pub AreRight-alike :

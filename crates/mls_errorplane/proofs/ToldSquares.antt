@@ -1,9 +1,7 @@
 -- Rectangles that have the squares which show what those of another one show.
 use Rattle.std.proofs.Common.{◌≡◌, arith}
-use Rattle.mls_geom.specs.Rects.{Rect, IsRectangleIn}
+use Rattle.mls_errorplane.proofs.Words.{Columns, IsRectangleIn, Rect, Rows, Tells}
 use Rattle.mls_geom.proofs.Holds.{between_holds, holds_between}
-use Rattle.mls_layout.specs.declared.likeness.Likeness.TheVariants.{Columns, Rows}
-use Rattle.mls_errorplane.specs.Stretches.{Tells}
 
 -- for columns one of the same columns
 pub Tells-columns : (extent row rect : Rect) → IsRectangleIn extent row → (rect.left ≡ row.left) × (rect.right ≡ row.right) → Tells Columns row rect

@@ -2,20 +2,13 @@
 use Rattle.std.proofs.Common.{◌≡◌, ℕ, ◌-◌, ◌≤◌, Bool, true, false, ◌||◌, ◌&&◌, inl, inr, List, [], ◌∷◌, Option, Some, None, slice_get, Contains, refl, sym, ◌∙◌, arith}
 use Rattle.std.proofs.lemmas.Bool.{both_ways, cases_Bool, cond-false, cond-true, false_from_ne_true}
 use Rattle.std.proofs.lemmas.Option.{get_or_from_slice_get, slice_get_within}
-use Rattle.mls_edgerule.specs.Halos.{halo_of}
-use Rattle.mls_edgerule.specs.declared.edge_rule.EdgeRule.{EdgeRule}
-use Rattle.mls_geom.specs.Layouts.{Layout}
-use Rattle.mls_geom.specs.Rects.{Rect, IsRectangleIn, common, grown, holds}
-use Rattle.mls_geom.specs.World.{world}
+use Rattle.mls_errorplane.specs.Words.{AgreeIn, AgreeOutside, EdgeRule, IsRectangleIn, Layout, Rect, common, forbids, forbids_in, grown, halo_of, holds, is_violated_in, surroundings, violated_rules, within, world, zone_of}
 use Rattle.mls_geom.proofs.Holds.{between_holds, holds_between}
 use Rattle.mls_kinds.proofs.BitLemmas.{bits_where_same}
-use Rattle.mls_checker.specs.Findings.{forbids_in, is_violated_in, violated_rules}
-use Rattle.mls_checker.specs.Forbids.{forbids}
-use Rattle.mls_checker.specs.Halos.{surroundings, zone_of}
-use Rattle.mls_checker.specs.ZoneLayouts.{AgreeIn, AgreeOutside, within}
 use Rattle.mls_checker.proofs.ListTests.{list_any_same_in_range}
 use Rattle.mls_checker.proofs.Locality.{forbidden_same_in}
 use Rattle.mls_checker.proofs.ReachLemmas.{halo-bounds}
+use Rattle.mls_errorplane.proofs.PaintedPieces.{holds_inside}
 
 -- ---- the zone
 in_zone : (h near : ℕ) (piece : Rect) (x y : ℕ) → near ≤ h → holds (grown near piece) x y ≡ true → holds world x y ≡ true → holds (common (grown h piece) world) x y ≡ true
@@ -45,11 +38,6 @@ only true false true here same = same
 only true false false here same = refl
 only false a b here same = absurd (cc)
 
-in_world : (piece : Rect) (x y : ℕ) → IsRectangleIn world piece → holds piece x y ≡ true → holds world x y ≡ true
-in_world piece x y legal here =
-    let lines = holds_between piece x y here in
-    between_holds world x y (omega (arith, legal.left_in, lines.0)) (omega (arith, legal.right_in, lines.1)) (omega (arith, legal.bottom_in, lines.2)) (omega (arith, legal.top_in, lines.3))
-
 halo_of-only : (rules : List EdgeRule) (rule : EdgeRule) → Contains rules rule → halo_of (rule ∷ []) ≤ halo_of rules
 halo_of-only rules rule among = let bound = halo-bounds rules rule among in omega (arith, bound)
 
@@ -61,7 +49,7 @@ pub forbids-zone :
 forbids-zone rules piece layout rule among legal space x y here =
     let zone = within (zone_of rules piece) layout in
     let agree : AgreeIn (surroundings (rule ∷ []) piece) zone layout = AgreeIn-zone rules (halo_of (rule ∷ [])) piece layout (halo_of-only rules rule among) space in
-    only (holds world x y) (forbids rule zone (record { x = x; y = y })) (forbids rule layout (record { x = x; y = y })) (in_world piece x y legal here)
+    only (holds world x y) (forbids rule zone (record { x = x; y = y })) (forbids rule layout (record { x = x; y = y })) (holds_inside world piece x y legal here)
     (forbidden_same_in (rule ∷ []) piece zone layout agree x y here)
 
 forbids_in-zone :

@@ -2,14 +2,9 @@
 use Rattle.std.proofs.Common.{◌≡◌, ℕ, ◌||◌, inl, inr, List, Option, Some, None, slice_get, refl, sym, ◌∙◌}
 use Rattle.std.specs.Cmp.{both_ways as same_if}
 use Rattle.std.proofs.lemmas.Bool.{or_cases, or_left, or_right}
-use Rattle.mls_edgerule.specs.RuleSets.{union}
-use Rattle.mls_edgerule.specs.declared.edge_rule.EdgeRule.{EdgeRule}
+use Rattle.mls_errorplane.specs.Words.{EdgeRule, Layout, Rect, SquareSet, has_some, holds, is_violated_in, union, violated_rules}
 use Rattle.mls_edgerule.proofs.RuleSetLemmas.{union-bits_where}
-use Rattle.mls_geom.specs.Layouts.{Layout}
-use Rattle.mls_geom.specs.Rects.{Rect, holds}
 use Rattle.mls_kinds.proofs.BitLemmas.{bits_where_same}
-use Rattle.mls_checker.specs.Findings.{is_violated_in, violated_rules}
-use Rattle.mls_checker.specs.Marking.{SquareSet, has_some}
 use Rattle.mls_checker.proofs.FoundInRect.{found_in_rect, rect_finds}
 
 -- each square of the whole lies in one of the parts, and theirs lie in the whole

@@ -1,17 +1,9 @@
 -- Marks that are carried from a rectangle to another one, in which the layout shows the same. This project's own.
 use Rattle.std.specs.Prelude.{◌≡◌, ◌+◌, ◌*◌, ◌<◌, ◌≤◌, ℕ, max, min, Bool, true, false}
-use Rattle.mls_geom.specs.Pictures.{Picture}
-use Rattle.mls_geom.specs.Rects.{Rect, holds}
-use Rattle.mls_geom.specs.TileCounts.{tile_count}
-use Rattle.mls_geom.specs.World.{world}
-use Rattle.mls_geom.specs.declared.piece.Piece.{Piece}
-use Rattle.mls_stitch.specs.declared.laid_tile.LaidTile.{LaidTile}
-use Rattle.mls_checker.specs.Marking.{SquareSet}
+use Rattle.mls_errorplane.specs.Words.{LaidTile, Likeness, Picture, Piece, Rect, Spans, SquareSet, holds, like_column, like_row, tile_count, world}
 use Rattle.mls_errorplane.specs.DirtyLists.{piece_side}
 use Rattle.mls_errorplane.specs.ErrorPlanes.{marks_picture}
 use Rattle.mls_errorplane.specs.MarkPlanes.{is_marked}
-use Rattle.mls_layout.specs.Likenesses.{Spans, like_column, like_row}
-use Rattle.mls_layout.specs.declared.likeness.Likeness.{Likeness}
 use Rattle.mls_layout.specs.declared.likeness.Likeness.TheVariants.{OneKind, Columns, Rows}
 
 -- the set that has a square where another one has the square in which a rectangle shows what it shows in this one

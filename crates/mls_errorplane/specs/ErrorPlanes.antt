@@ -1,17 +1,6 @@
 -- A layout's error plane, and its areas that await checking.
-use Rattle.std.specs.Prelude.{◌≡◌, ◌≢◌, ℕ, ◌≤◌, Bool, nat_lt, true, false, if◌then◌else◌, List, [], ◌∷◌, IfSome, Result, Ok, Err, ⊤}
-use Rattle.std.specs.List.{All, Contains}
-use Rattle.mls_edgerule.specs.declared.edge_rule.EdgeRule.{EdgeRule}
-use Rattle.mls_geom.specs.Layouts.{Layout}
-use Rattle.mls_geom.specs.Pictures.{Picture}
-use Rattle.mls_geom.specs.Rects.{Rect}
-use Rattle.mls_geom.specs.TileCounts.{tile_count}
-use Rattle.mls_geom.specs.World.{world}
-use Rattle.mls_tilepool.specs.Pools.{Pool, room_of}
-use Rattle.mls_library.specs.Libraries.{Library}
-use Rattle.mls_layout.specs.Workspaces.{FitsWorkspace}
-use Rattle.mls_paint.specs.Planes.{HasStrips, picture_in}
-use Rattle.mls_checker.specs.Marking.{SquareSet}
+use Rattle.std.specs.Prelude.{◌≡◌, ◌≢◌, ℕ, ◌≤◌, Bool, nat_lt, true, false, if◌then◌else◌, List, [], ◌∷◌, IfSome, Result, Ok, Err, ⊤, All, Contains}
+use Rattle.mls_errorplane.specs.Words.{EdgeRule, FitsWorkspace, HasStrips, Layout, Library, Picture, Pool, Rect, SquareSet, picture_in, room_of, tile_count, world}
 use Rattle.mls_errorplane.specs.Checkings.{Checking, check_step}
 use Rattle.mls_errorplane.specs.MarkPlanes.{is_marked, marked_count}
 use Rattle.mls_errorplane.specs.declared.error_plane.Stepped.{Stepped}

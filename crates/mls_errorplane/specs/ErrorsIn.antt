@@ -1,11 +1,6 @@
 -- What a rectangle has of the marks, and of the areas that await checking. This project's own.
-use Rattle.std.specs.Prelude.{◌&&◌, ◌==◌, if◌then◌else◌, Option, None, List}
-use Rattle.std.specs.List.{filter_map}
-use Rattle.std.specs.Option.{option_map}
-use Rattle.mls_geom.specs.Rects.{Rect, clipped, holds}
-use Rattle.mls_geom.specs.declared.piece.Piece.{Piece}
-use Rattle.mls_checker.specs.Marking.{SquareSet}
-use Rattle.mls_stitch.specs.declared.laid_tile.LaidTile.{LaidTile}
+use Rattle.std.specs.Prelude.{◌&&◌, ◌==◌, if◌then◌else◌, Option, None, List, filter_map, option_map}
+use Rattle.mls_errorplane.specs.Words.{LaidTile, Piece, Rect, SquareSet, clipped, holds}
 
 -- the squares of the set that lie in the rectangle
 abbrev pub squares_in : Rect → SquareSet → SquareSet

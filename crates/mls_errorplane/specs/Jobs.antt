@@ -1,10 +1,6 @@
 -- What a check outside an error plane takes with it: the first piece, and the layout in its zone. This project's own.
 use Rattle.std.specs.Prelude.{◌≡◌, ◌≢◌, ℕ, List, [], length, Option, Some, None, Result, Ok, Err}
-use Rattle.mls_edgerule.specs.declared.edge_rule.EdgeRule.{EdgeRule}
-use Rattle.mls_geom.specs.Layouts.{Layout}
-use Rattle.mls_checker.specs.Copies.{copied_layout}
-use Rattle.mls_checker.specs.Halos.{zone_of}
-use Rattle.mls_checker.specs.ZoneLayouts.{within}
+use Rattle.mls_errorplane.specs.Words.{EdgeRule, Layout, copied_layout, within, zone_of}
 use Rattle.mls_errorplane.specs.Checkings.{Checking}
 use Rattle.mls_errorplane.specs.DirtyLists.{first_piece_of}
 use Rattle.mls_errorplane.specs.declared.job.Job.{Job}

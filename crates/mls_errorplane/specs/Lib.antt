@@ -12,3 +12,4 @@ pub mod Outcomes
 pub mod PaintedMarks
 pub mod Stretches
 pub mod Violations
+pub mod Words

@@ -1,14 +1,7 @@
 -- Pieces that are checked as one, since each plane shows the same round all of them as round pieces whose marks are right. This project's own.
-use Rattle.std.specs.Prelude.{◌≡◌, ◌+◌, ◌<◌, ◌≤◌, ℕ, zero, suc, nat_lt, Bool, ◌&&◌, ◌||◌, true, false, List, [], ◌∷◌, ◌++◌, Option}
-use Rattle.std.specs.Option.{IsSomeAnd, option_to_list}
-use Rattle.mls_edgerule.specs.Halos.{halo_of}
-use Rattle.mls_edgerule.specs.declared.edge_rule.EdgeRule.{EdgeRule}
-use Rattle.mls_geom.specs.Layouts.{Layout}
-use Rattle.mls_geom.specs.Rects.{Rect, IsRectangleIn, holds}
-use Rattle.mls_layout.specs.Likenesses.{ShowsAlike, like_column, like_row}
-use Rattle.mls_layout.specs.declared.likeness.Likeness.{Likeness}
-use Rattle.mls_checker.specs.Forbids.{forbidden}
-use Rattle.mls_checker.specs.Marking.{SquareSet}
+use Rattle.std.specs.Prelude.{◌≡◌, ◌+◌, ◌<◌, ◌≤◌, ℕ, zero, suc, nat_lt, Bool, ◌&&◌, ◌||◌, true, false, List, [], ◌∷◌, ◌++◌, Option, option_to_list}
+use Rattle.std.specs.Option.{IsSomeAnd}
+use Rattle.mls_errorplane.specs.Words.{EdgeRule, IsRectangleIn, Layout, Likeness, Rect, ShowsAlike, SquareSet, forbidden, halo_of, holds, like_column, like_row}
 use Rattle.mls_errorplane.specs.DirtyLists.{dropped, first_piece_of, piece_side}
 use Rattle.mls_errorplane.specs.declared.checked.Checked.{Checked}
 use Rattle.mls_errorplane.specs.ErrorPlanes.{exceeds}

@@ -1,17 +1,7 @@
 -- What rules forbid in a rectangle of a layout, rule by rule, as maximal strips. This project's own.
-use Rattle.std.specs.Prelude.{ℕ, ◌≡◌, ◌-◌, ◌&&◌, ◌==◌, if◌then◌else◌, List, map, filter, length, slice_get}
-use Rattle.std.specs.List.{list_any, sum_by}
-use Rattle.mls_edgerule.specs.RuleSets.{rules_in}
-use Rattle.mls_edgerule.specs.declared.edge_rule.EdgeRule.{EdgeRule}
-use Rattle.mls_geom.specs.Layouts.{Layout}
-use Rattle.mls_geom.specs.Locality.{uncovered}
-use Rattle.mls_geom.specs.Pictures.{Picture}
-use Rattle.mls_geom.specs.Rects.{Rect, holds}
-use Rattle.mls_geom.specs.StripLists.{strips_of}
-use Rattle.mls_geom.specs.World.{world}
-use Rattle.mls_checker.specs.Findings.{violated_rules}
-use Rattle.mls_checker.specs.Marking.{SquareSet, squares_of}
-use Rattle.mls_checker.specs.Violations.{areas_at, violations_of}
+use Rattle.std.specs.Prelude.{ℕ, ◌≡◌, ◌-◌, ◌&&◌, ◌==◌, if◌then◌else◌, List, map, filter, length, slice_get, sum_by}
+use Rattle.std.specs.List.{list_any}
+use Rattle.mls_errorplane.specs.Words.{EdgeRule, Layout, Picture, Rect, SquareSet, areas_at, holds, rules_in, squares_of, strips_of, uncovered, violated_rules, violations_of, world}
 use Rattle.mls_errorplane.specs.ErrorPlanes.{marks_picture}
 
 -- the maximal strips of the squares that a set has in the world, by bottom and then left

@@ -1,14 +1,6 @@
 //! Carrying marks from pieces that were checked to others.
-ghost use Rattle.std.specs.Prelude.{◌≡◌, ◌+◌, ◌*◌, ◌≤◌, ◌<◌, true, false, IfOk, IfSome, IsTrue, OnErr, OnOk, length, map, vec_capacity};
-ghost use Rattle.std.specs.List.{All};
-ghost use Rattle.mls_geom.specs.Pictures.{overlaid};
-ghost use Rattle.mls_geom.specs.Rects.{IsRectangleIn};
-ghost use Rattle.mls_geom.specs.TileCounts.{tile_count};
-ghost use Rattle.mls_geom.specs.World.{world};
-ghost use Rattle.mls_paint.specs.Planes.{HasStrips, picture_in};
-ghost use Rattle.mls_paint.specs.Scratches.{HasRoomFor, KeepsRoom};
-ghost use Rattle.mls_stitch.specs.Tilings.{ChangesOnly, HasPlane};
-ghost use Rattle.mls_tilepool.specs.Pools.{room_of};
+ghost use Rattle.std.specs.Prelude.{◌≡◌, ◌+◌, ◌*◌, ◌≤◌, ◌<◌, true, false, IfOk, IfSome, IsTrue, OnErr, OnOk, length, map, vec_capacity, All};
+ghost use Rattle.mls_errorplane.specs.Words.{ChangesOnly, HasPlane, HasRoomFor, HasStrips, IsRectangleIn, KeepsRoom, overlaid, picture_in, room_of, tile_count, world};
 ghost use Rattle.mls_errorplane.specs.DirtyLists.{piece_side};
 ghost use Rattle.mls_errorplane.specs.ErrorPlanes.{HasMarks, ShowsMarks, checking_of, marks_picture};
 ghost use Rattle.mls_errorplane.specs.MarkPlanes.{is_marked, marked_count};
@@ -90,24 +82,18 @@ fn most_after(
     ensures room { IfSome result (LeavesRoom limit likeness rect (picture_in pool.now plane.now)) }
     ensures rooms { KeepsRoom scratch.old scratch.new }
 {
-    lies_in_world(rect);
+    let lines = rect.area();
     let all = tile_count(pool, plane) as usize;
     let coarse = most_beside(limit, all, PIECE_SIDE);
     if coarse >= Some(limit / 2) {
         return coarse;
     }
-    if is_hopeless(all, limit, rect) {
+    if all > (limit / 2) as usize && lines.size() < SEARCHED {
         return None;
     }
     find_meeting(pool, plane, rows_from(rect), scratch);
     let tiles = scratch.tiles();
     most_beside(limit, tiles.len(), uneven_rows(tiles, likeness, rect))
-}
-
-/// Returns whether a search would hardly find room: where a small rectangle lies beside more tiles than half of the
-/// limit.
-fn is_hopeless(tiles: usize, limit: u32, rect: Rect) -> bool {
-    tiles > (limit / 2) as usize && rect.area().size() < SEARCHED
 }
 
 /// Returns how many tiles there may be beside these tiles and two for each of the rows, if any.

@@ -1,11 +1,6 @@
 //! What layouts are checked by.
 ghost use Rattle.std.specs.Prelude.{◌≡◌, IfOk};
-ghost use Rattle.mls_checker.specs.Copies.{copied_layout};
-ghost use Rattle.mls_checker.specs.Halos.{zone_of};
-ghost use Rattle.mls_checker.specs.ZoneLayouts.{within};
-ghost use Rattle.mls_geom.specs.Rects.{IsRectangleIn};
-ghost use Rattle.mls_geom.specs.World.{world};
-ghost use Rattle.mls_layout.specs.Uses.{HasLayout, flat_layout};
+ghost use Rattle.mls_errorplane.specs.Words.{HasLayout, IsRectangleIn, copied_layout, flat_layout, within, world, zone_of};
 
 use crate::dirty::lies_in_world;
 use mls_checker::Snapshot;

@@ -1,8 +1,7 @@
 //! The list of the areas of a layout that await checking.
-ghost use Rattle.std.specs.Prelude.{◌≡◌, ◌==◌, ◌<◌, ◌≤◌, [], IfNone, IfOk, IfSome, length};
+ghost use Rattle.std.specs.Prelude.{◌≡◌, ◌<◌, ◌≤◌, [], IfNone, IfOk, IfSome, length};
 ghost use Rattle.std.specs.VecDeque.{deque_capacity, deque_len};
-ghost use Rattle.mls_geom.specs.Rects.{IsRectangleIn, joined};
-ghost use Rattle.mls_geom.specs.World.{world};
+ghost use Rattle.mls_errorplane.specs.Words.{IsRectangleIn, world};
 ghost use Rattle.mls_errorplane.specs.MarkPlanes.{most_pieces};
 ghost use Rattle.mls_errorplane.specs.DirtyLists as spec;
 ghost use Rattle.mls_errorplane.specs.DirtyLists.{IsDirtyList, added, dropped, first_piece_of, united, zone_round};
@@ -60,7 +59,10 @@ impl Dirty {
     pub fn add(&mut self, rect: Rect, halo: u32)
         ensures { self.new ≡ added self.old (zone_round halo rect) }
     {
-        self.areas.push_back_reserved(zone_round(rect, halo));
+        let zone = rect.grow(halo);
+        // For its contract alone: the zone lies in the world.
+        zone.area();
+        self.areas.push_back_reserved(zone);
         if self.areas.len() > MOST_AREAS {
             unite(&mut self.areas);
         }
@@ -140,13 +142,6 @@ impl Dirty {
     {
         self.areas.len()
     }
-
-    /// Returns whether there is no area.
-    pub fn is_empty(&self) -> bool
-        ensures { result ≡ (length self.now == 0) }
-    {
-        self.areas.is_empty()
-    }
 }
 
 /// Each rectangle lies in the world. Does nothing: the contract is the law.
@@ -154,16 +149,6 @@ pub(crate) fn lies_in_world(rect: Rect)
     ensures { IsRectangleIn world rect }
 {
     rect.area();
-}
-
-/// Returns the squares of the world that lie in the rectangle or at most `halo` squares away from it.
-fn zone_round(rect: Rect, halo: u32) -> Rect
-    ensures value { result ≡ zone_round halo rect }
-    ensures legal { IsRectangleIn world result }
-{
-    let zone = rect.grow(halo);
-    lies_in_world(zone);
-    zone
 }
 
 /// Returns the lower-left part of an area that is checked at once.

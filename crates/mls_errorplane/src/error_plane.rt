@@ -1,20 +1,6 @@
 //! Checking a layout piece by piece, after it was edited.
 ghost use Rattle.std.specs.Prelude.{◌≡◌, ◌≤◌, ◌↔◌, ℕ, true, IfOk, IfSome, IsTrue, OnErr, Some, List, ◌+◌, ◌-◌, [], ◌∷◌, length};
-ghost use Rattle.mls_checker.specs.Findings.{IsExact};
-ghost use Rattle.mls_checker.specs.Forbids.{forbidden};
-ghost use Rattle.mls_checker.specs.Marking.{marks, no_squares};
-ghost use Rattle.mls_edgerule.specs.declared.edge_rule.EdgeRule.{EdgeRule};
-ghost use Rattle.mls_geom.specs.Layouts.{Layout};
-ghost use Rattle.mls_geom.specs.Rects.{holds, size_of};
-ghost use Rattle.mls_geom.specs.StripLists.{strips_of};
-ghost use Rattle.mls_geom.specs.TileCounts.{tile_count};
-ghost use Rattle.mls_geom.specs.World.{world};
-ghost use Rattle.mls_layout.specs.Uses.{HasLayout, flat_layout};
-ghost use Rattle.mls_layout.specs.Workspaces.{FitsWorkspace};
-ghost use Rattle.mls_paint.specs.Owners.{RemovesOwners};
-ghost use Rattle.mls_paint.specs.Planes.{AddsOwner};
-ghost use Rattle.mls_stitch.specs.Tilings.{ChangesOnly};
-ghost use Rattle.mls_tilepool.specs.Pools.{IsOwner, Pool, room_of, unreserved};
+ghost use Rattle.mls_errorplane.specs.Words.{AddsOwner, ChangesOnly, EdgeRule, FitsWorkspace, HasLayout, IsExact, IsOwner, Layout, Pool, RemovesOwners, flat_layout, forbidden, holds, marks, no_squares, room_of, size_of, strips_of, tile_count, unreserved, world};
 ghost use Rattle.mls_errorplane.specs.Checkings.{dirtied};
 ghost use Rattle.mls_errorplane.specs.DirtyLists.{IsDirtyList, first_piece_of};
 ghost use Rattle.mls_errorplane.specs.MarkPlanes.{most_pieces};

@@ -1,15 +1,6 @@
 //! The marks of a rectangle, and the areas that await checking there.
-ghost use Rattle.std.specs.Prelude.{◌≡◌, ◌∷◌, ◌<◌, ◌≤◌, IfOk, IfSome, List, length, vec_capacity};
-ghost use Rattle.std.specs.List.{filter_map};
-ghost use Rattle.mls_geom.specs.Locality.{AreCoveredStrips, laid};
-ghost use Rattle.mls_geom.specs.StripLists.{strips_of};
-ghost use Rattle.mls_geom.specs.World.{world};
-ghost use Rattle.mls_geom.specs.declared.piece.Piece.{Piece};
-ghost use Rattle.mls_tilepool.specs.Pools.{room_of};
-ghost use Rattle.mls_stitch.specs.Tilings.{HasPlane};
-ghost use Rattle.mls_paint.specs.Planes.{picture_in};
-ghost use Rattle.mls_paint.specs.Scratches.{HasRoomFor, KeepsRoom};
-ghost use Rattle.mls_layout.specs.Workspaces.{FitsWorkspace};
+ghost use Rattle.std.specs.Prelude.{◌≡◌, ◌∷◌, ◌<◌, ◌≤◌, IfOk, IfSome, List, length, vec_capacity, filter_map};
+ghost use Rattle.mls_errorplane.specs.Words.{AreCoveredStrips, FitsWorkspace, HasPlane, HasRoomFor, KeepsRoom, Piece, laid, picture_in, room_of, strips_of, world};
 ghost use Rattle.mls_errorplane.specs.ErrorPlanes.{ShowsMarks, checking_of, marks_picture};
 ghost use Rattle.mls_errorplane.specs.ErrorsIn as spec;
 ghost use Rattle.mls_errorplane.specs.ErrorsIn.{areas_in, squares_in};

@@ -3,22 +3,29 @@ ghost use Rattle.std.specs.Prelude.{◌≡◌};
 ghost use Rattle.mls_layout.specs.Uses.{HasLayout};
 
 use crate::CheckContext;
-use crate::dirty::PIECE_SIDE;
+use crate::checked::Checked;
+use crate::dirty::{PIECE_SIDE, piece_of};
 use mls_geom::Rect;
 use mls_layout::{Onward, Workspace, goes_on_to};
 use mls_stitch::Plane;
 
-/// Returns how many pieces of an area that is no higher than a piece, or else rows of them, are expected to be alike: as
-/// many as the tiles span that begin it.
+/// Returns how many pieces of the rest of an area, or rows of them, if it is higher than a piece, are expected to be
+/// alike: as many as the tiles span that begin it, and none where there is no rest, or it begins in a block of checked
+/// pieces.
 pub(crate) fn expected_alike(
     planes: &[Plane],
     context: &CheckContext<'_>,
-    area: Rect,
+    checked: &Checked,
+    rest: Option<Rect>,
     workspace: &mut Workspace,
 ) -> u32
     requires { HasLayout workspace.old.pool planes.now context.now.uses.library.now }
     ensures { workspace.new.pool ≡ workspace.old.pool }
 {
+    let area = match rest {
+        Some(area) if !checked.encloses(piece_of(area)) => area,
+        _ => return 0,
+    };
     let halo = context.rules.halo();
     let lines = area.area();
     let zone = area.grow(halo).area();

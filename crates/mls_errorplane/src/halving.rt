@@ -19,7 +19,7 @@ const SHORT: u32 = 256;
 
 /// How many tiles lie in a rectangle, and how many of them across the line in the middle of its columns, and of its
 /// rows. It says where to cut: nothing is promised of it.
-#[derive(Clone, Copy)]
+#[derive(Clone, Copy, Default)]
 struct Crossing {
     tiles: usize,
     columns: usize,
@@ -99,12 +99,7 @@ pub(crate) fn longer_halves(rect: Rect) -> (Rect, Rect)
     requires { (rect.left + 256 < rect.right) ⊎ (rect.bottom + 256 < rect.top) }
     ensures { AreHalves rect result.0 result.1 }
 {
-    let none = Crossing {
-        tiles: 0,
-        columns: 0,
-        rows: 0,
-    };
-    better_halves(rect, none)
+    better_halves(rect, Crossing::default())
 }
 
 /// Returns how many tiles of the planes lie in the rectangle, and how many across its middle.
@@ -113,11 +108,7 @@ fn crossing_in(planes: &[Plane], rect: Rect, workspace: &mut Workspace) -> Cross
     ensures pool { workspace.new.pool ≡ workspace.old.pool }
 {
     let lines = rect.area();
-    let mut crossing = Crossing {
-        tiles: 0,
-        columns: 0,
-        rows: 0,
-    };
+    let mut crossing = Crossing::default();
     for index in 0..planes.len() {
         let Workspace { pool, scratch, .. } = workspace;
         find_meeting(pool, &planes[index], rect, scratch);

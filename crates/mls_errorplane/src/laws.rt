@@ -1,11 +1,6 @@
 //! Laws of lists of areas, of marks and of checking. Each function does nothing, and its contract is the law.
-ghost use Rattle.std.specs.Prelude.{◌≡◌, ℕ, ◌+◌, ◌*◌, ◌<◌, ◌≤◌, ◌^◌, true, false, ◌||◌, ◌&&◌, if◌then◌else◌, List, [], ◌∷◌, length};
-ghost use Rattle.std.specs.List.{All};
-ghost use Rattle.mls_checker.specs.Forbids.{forbidden};
-ghost use Rattle.mls_checker.specs.Marking.{SquareSet, squares_of};
-ghost use Rattle.mls_checker.specs.ZoneLayouts.{AgreeOutside};
-ghost use Rattle.mls_edgerule.specs.RuleLists.{rule_limit};
-ghost use Rattle.mls_edgerule.specs.declared.edge_rule.EdgeRule.{EdgeRule};
+ghost use Rattle.std.specs.Prelude.{◌≡◌, ℕ, ◌+◌, ◌*◌, ◌<◌, ◌≤◌, ◌^◌, true, false, ◌||◌, ◌&&◌, if◌then◌else◌, List, [], ◌∷◌, length, All};
+ghost use Rattle.mls_errorplane.specs.Words.{AgreeOutside, EdgeRule, IsRectangleIn, Layout, Picture, Rect, SquareSet, empty_picture, forbidden, holds, meets, rule_limit, size_of, squares_of, world};
 ghost use Rattle.mls_errorplane.specs.Carrying.{AreFew};
 ghost use Rattle.mls_errorplane.specs.CatchingUp.{AfterSteps, Steps};
 ghost use Rattle.mls_errorplane.specs.Checkings.{Checking, IsChecked, check_step, opening_checking, dirtied};
@@ -13,10 +8,6 @@ ghost use Rattle.mls_errorplane.specs.DirtyLists.{IsDirtyList, added, area_of, d
 ghost use Rattle.mls_errorplane.specs.MarkPlanes.{is_marked, remarked};
 ghost use Rattle.mls_errorplane.specs.Stretches.{AreRight, DropsAll};
 ghost use Rattle.mls_errorplane.specs.Violations.{squares_in_all, violations_in};
-ghost use Rattle.mls_geom.specs.Layouts.{Layout};
-ghost use Rattle.mls_geom.specs.Pictures.{Picture, empty_picture};
-ghost use Rattle.mls_geom.specs.Rects.{IsRectangleIn, Rect, holds, meets, size_of};
-ghost use Rattle.mls_geom.specs.World.{world};
 
 /// The squares of a list are those of its first piece and those of the list without that piece.
 pub fn dropping_keeps_squares()

@@ -1,10 +1,8 @@
 //! The pieces that paint marks on an error plane.
 ghost use Rattle.std.specs.Prelude.{◌≡◌, ◌+◌, ◌<◌, ◌≤◌, ◌||◌, length, vec_capacity};
-ghost use Rattle.mls_checker.specs.Marking.{SquareSet, marks, no_squares, squares_of};
+ghost use Rattle.mls_errorplane.specs.Words.{IsRectangleIn, SquareSet, holds, marks, no_squares, squares_of, world};
 ghost use Rattle.mls_errorplane.specs.MarkPlanes.{most_pieces};
 ghost use Rattle.mls_errorplane.specs.PaintedMarks.{Paints};
-ghost use Rattle.mls_geom.specs.Rects.{IsRectangleIn, holds};
-ghost use Rattle.mls_geom.specs.World.{world};
 
 use crate::dirty::lies_in_world;
 use mls_checker::Marks;

@@ -1,16 +1,6 @@
 //! Marks on error planes.
-ghost use Rattle.std.specs.Prelude.{◌≡◌, ◌+◌, ◌<◌, ◌≤◌, ◌↔◌, IfOk, IfSome, IsErr, OnErr, OnOk, vec_capacity};
-ghost use Rattle.std.specs.List.{sum_by};
-ghost use Rattle.mls_checker.specs.Findings.{IsExact};
-ghost use Rattle.mls_checker.specs.Marking.{marks};
-ghost use Rattle.mls_geom.specs.Rects.{IsRectangleIn, size_of};
-ghost use Rattle.mls_geom.specs.TileCounts.{tile_count};
-ghost use Rattle.mls_geom.specs.World.{world};
-ghost use Rattle.mls_paint.specs.Planes.{HasStrips, picture_in};
-ghost use Rattle.mls_paint.specs.Scratches.{HasRoomFor, KeepsRoom};
-ghost use Rattle.mls_stitch.specs.Areas.{MeetArea};
-ghost use Rattle.mls_stitch.specs.Tilings.{ChangesOnly, HasPlane, block_at};
-ghost use Rattle.mls_tilepool.specs.Pools.{room_of, tiles_of};
+ghost use Rattle.std.specs.Prelude.{◌≡◌, ◌+◌, ◌<◌, ◌≤◌, ◌↔◌, IfOk, IfSome, IsErr, OnErr, OnOk, vec_capacity, sum_by};
+ghost use Rattle.mls_errorplane.specs.Words.{ChangesOnly, HasPlane, HasRoomFor, HasStrips, IsExact, IsRectangleIn, KeepsRoom, MeetArea, block_at, marks, picture_in, room_of, size_of, tile_count, tiles_of, world};
 ghost use Rattle.mls_errorplane.specs.MarkPlanes.{marked_count, most_pieces, remarked};
 ghost use Rattle.mls_errorplane.specs.PaintedMarks.{marked_part, space_size};
 

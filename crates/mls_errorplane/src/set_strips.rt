@@ -1,9 +1,6 @@
 //! The maximal strips of the squares that areas have.
 ghost use Rattle.std.specs.Prelude.{◌≡◌, ◌&&◌, ◌<◌, ◌≤◌, ℕ, if◌then◌else◌, length, map, IfErr, IfOk, OnOk};
-ghost use Rattle.mls_checker.specs.Marking.{SquareSet};
-ghost use Rattle.mls_geom.specs.Locality.{laid};
-ghost use Rattle.mls_geom.specs.Rects.{holds};
-ghost use Rattle.mls_layout.specs.Strips.{IfTooMany};
+ghost use Rattle.mls_errorplane.specs.Words.{IfTooMany, holds, laid};
 ghost use Rattle.mls_errorplane.specs.Violations.{Covers, set_strips, squares_within};
 
 use crate::dirty::lies_in_world;
@@ -29,27 +26,7 @@ pub(crate) fn find_strips(
 {
     let pieces = pieces_in(alloc, rect, areas)?;
     let mut scratch = Scratch::new(alloc, pieces.len().max(limit))?;
-    list_strips(alloc, &pieces, limit, &mut scratch)
-}
-
-/// Returns the maximal strips of what pieces cover, by bottom and then left, which are found in the scratch.
-///
-/// Fails if there are more than `limit` strips, or memory runs out.
-fn list_strips(
-    alloc: Global,
-    pieces: &[Piece],
-    limit: usize,
-    scratch: &mut Scratch,
-) -> Result<Vec<Rect>, Unlisted>
-    requires pieces_fit { length pieces.now ≤ scratch.old.room }
-    requires strips_fit { limit ≤ scratch.old.room }
-    ensures strips { (set : SquareSet) → Covers (laid pieces.now) set
-        → IfOk result (λ strips. strips.items ≡ set_strips set) }
-    ensures within { IfOk result (λ strips. length strips.items ≤ limit) }
-    ensures too_many { (set : SquareSet) → Covers (laid pieces.now) set
-        → IfErr result (λ fault. IfTooMany fault (limit < length (set_strips set))) }
-{
-    fresh_strips(pieces, limit, scratch)?;
+    fresh_strips(&pieces, limit, &mut scratch)?;
     let strips = rects_of(alloc, scratch.strips())?;
     Ok(strips)
 }

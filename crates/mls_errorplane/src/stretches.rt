@@ -1,17 +1,13 @@
 //! Checking pieces as one, where each plane shows one kind round all of them, or bars.
 ghost use Rattle.std.specs.Prelude.{◌≡◌, ◌+◌, ◌<◌, ◌≤◌, ℕ, false, IfNone, IfSome, IsTrue, List};
-ghost use Rattle.mls_geom.specs.Layouts.{Layout};
-ghost use Rattle.mls_geom.specs.Rects.{Rect, joined};
-ghost use Rattle.mls_layout.specs.Uses.{HasLayout, flat_layout};
-ghost use Rattle.mls_checker.specs.Marking.{SquareSet};
-ghost use Rattle.mls_stitch.specs.Tilings.{ChangesOnly};
+ghost use Rattle.mls_errorplane.specs.Words.{ChangesOnly, HasLayout, Layout, Rect, SquareSet, flat_layout, joined};
 ghost use Rattle.mls_errorplane.specs.CatchingUp.{Steps};
 ghost use Rattle.mls_errorplane.specs.DirtyLists.{area_of};
 ghost use Rattle.mls_errorplane.specs.ErrorPlanes.{HasMarks, ShowsMarks, StandsApart, checking_of};
 ghost use Rattle.mls_errorplane.specs.Stretches.{AreRight, AreRightIn, AreSound, DropsAll, IsAlike, Tells};
 
 use crate::checked::{Checked, Source};
-use crate::dirty::{lies_in_world, piece_of};
+use crate::dirty::lies_in_world;
 use crate::expecting::expected_alike;
 use crate::stretch::Stretch;
 use crate::{CheckContext, ErrorPlane};
@@ -41,26 +37,6 @@ fn next_most(stretch: &Stretch, most: u32, before: u32, expected: u32) -> u32
         _ => 1,
     };
     expected.max(others)
-}
-
-/// Returns how many pieces or rows of the rest of an area are expected to be alike: none where there is no rest, or it
-/// begins in a block of checked pieces.
-fn expected_of(
-    planes: &[Plane],
-    context: &CheckContext<'_>,
-    checked: &Checked,
-    rest: Option<Rect>,
-    workspace: &mut Workspace,
-) -> u32
-    requires { HasLayout workspace.old.pool planes.now context.now.uses.library.now }
-    ensures { workspace.new.pool ≡ workspace.old.pool }
-{
-    match rest {
-        Some(area) if !checked.encloses(piece_of(area)) => {
-            expected_alike(planes, context, area, workspace)
-        }
-        _ => 0,
-    }
 }
 
 /// Returns pieces that were checked and tell what the marks in the rectangle must be, if the layout with the uses has
@@ -182,7 +158,7 @@ impl ErrorPlane {
             steps += stretch.pieces;
             *checked = checked.then(stretch.rect);
             let before = expected;
-            expected = expected_of(planes, context, checked, stretch.rest, workspace);
+            expected = expected_alike(planes, context, checked, stretch.rest, workspace);
             most = next_most(&stretch, most, before, expected);
         }
         steps

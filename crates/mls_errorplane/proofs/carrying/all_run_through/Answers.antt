@@ -1,10 +1,7 @@
-use Rattle.std.proofs.Common.{refl, subst, take, arith}
-use Rattle.std.proofs.lemmas.List.{take_all}
+use Rattle.std.proofs.Common.{refl, subst, take, arith, take_all}
 use Rattle.std.proofs.lemmas.List.Elements.{All-push}
-use Rattle.mls_geom.specs.Rects.{Rect}
+use Rattle.mls_errorplane.proofs.Words.{LaidTile, Rect, RunsThrough}
 use Rattle.mls_checker.proofs.Prefixes.{take_next}
-use Rattle.mls_stitch.specs.declared.laid_tile.LaidTile.{LaidTile}
-use Rattle.mls_errorplane.specs.Carrying.{RunsThrough}
 use Rattle.mls_errorplane.proofs.carrying.all_run_through.Goals as goal
 
 pub loop-tile-preserved : goal.loop-tile-preserved

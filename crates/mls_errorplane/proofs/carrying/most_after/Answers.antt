@@ -1,10 +1,5 @@
 use Rattle.std.proofs.Common.{List, All, length, ap, subst, arith}
-use Rattle.mls_geom.specs.Rects.{Rect}
-use Rattle.mls_tilepool.specs.Pools.{tiles_of}
-use Rattle.mls_stitch.specs.Areas.{MeetArea}
-use Rattle.mls_stitch.specs.Tilings.{block_at}
-use Rattle.mls_stitch.specs.declared.laid_tile.LaidTile.{LaidTile}
-use Rattle.mls_errorplane.specs.Carrying.{RunsThrough}
+use Rattle.mls_errorplane.proofs.Words.{LaidTile, MeetArea, Rect, RunsThrough, block_at, tiles_of}
 use Rattle.mls_errorplane.proofs.CarriedCounts.{IfSome-leads, LeavesRoom-all, LeavesRoom-found}
 use Rattle.mls_errorplane.proofs.carrying.most_after.Goals as goal
 
@@ -12,7 +7,7 @@ pub returns-then-ge-clause-room : goal.returns-then-ge-clause-room
 returns-then-ge-clause-room c =
     IfSome-leads c.most_beside-coarse.result
     (λ most is.
-    LeavesRoom-all c.args.pool.now c.args.plane.now c.args.limit c.args.likeness c.args.rect most c.requires.strips c.lies_in_world.ensures (omega (arith, is, c.tile_count-all.ensures)))
+    LeavesRoom-all c.args.pool.now c.args.plane.now c.args.limit c.args.likeness c.args.rect most c.requires.strips c.area-lines.ensures.legal (omega (arith, is, c.tile_count-all.ensures)))
     c.most_beside-coarse.ensures
 
 pub returns-clause-room : goal.returns-clause-room
@@ -25,7 +20,7 @@ returns-clause-room c =
     let counted = ap length c.tiles-tiles.ensures in
     IfSome-leads c.most_beside.result
     (λ most is.
-    LeavesRoom-found pool owner c.args.limit c.args.likeness rect most c.uneven_rows.result found c.requires.strips c.lies_in_world.ensures are c.uneven_rows.ensures.some
+    LeavesRoom-found pool owner c.args.limit c.args.likeness rect most c.uneven_rows.result found c.requires.strips c.area-lines.ensures.legal are c.uneven_rows.ensures.some
     (λ less.
     let even = c.uneven_rows.ensures.even less in
     (subst (λ (list : List LaidTile). All (λ tile. RunsThrough rect tile.piece.rect) list) c.tiles-tiles.ensures even.0, even.1))

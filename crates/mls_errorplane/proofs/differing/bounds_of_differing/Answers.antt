@@ -1,8 +1,5 @@
-use Rattle.std.proofs.Common.{List, All, subst}
-use Rattle.std.proofs.lemmas.List.{take_all}
-use Rattle.mls_checker.specs.Marking.{marks}
-use Rattle.mls_stitch.specs.declared.laid_tile.LaidTile.{LaidTile}
-use Rattle.mls_errorplane.specs.PaintedMarks.{ShowsBeside}
+use Rattle.std.proofs.Common.{List, All, subst, take_all}
+use Rattle.mls_errorplane.proofs.Words.{LaidTile, ShowsBeside, marks}
 use Rattle.mls_errorplane.proofs.ShownBeside.{beside-next}
 use Rattle.mls_errorplane.proofs.differing.bounds_of_differing.Goals as goal
 

@@ -1,8 +1,6 @@
 -- beside the bounds the tiles so far show the marks
 use Rattle.std.proofs.Common.{All, take}
-use Rattle.mls_checker.specs.Marking.{marks}
-use Rattle.mls_geom.specs.Rects.{IsWithin}
-use Rattle.mls_errorplane.specs.PaintedMarks.{ShowsBeside}
+use Rattle.mls_errorplane.proofs.Words.{IsWithin, ShowsBeside, marks}
 use Rattle.mls_errorplane.proofs.differing.bounds_of_differing.Given as goal
 
 abbrev pub invariant-loop-tile : goal.invariant-loop-tile

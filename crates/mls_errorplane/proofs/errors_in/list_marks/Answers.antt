@@ -1,9 +1,6 @@
-use Rattle.std.proofs.Common.{List, length, ap, ◌∙◌, ◌∷◌, arith}
-use Rattle.std.specs.List.{filter_map}
-use Rattle.mls_geom.specs.World.{world}
+use Rattle.std.proofs.Common.{List, length, ap, ◌∙◌, ◌∷◌, arith, filter_map}
+use Rattle.mls_errorplane.specs.Words.{LaidTile, room_of, world}
 use Rattle.mls_geom.proofs.WholePlanes.{space}
-use Rattle.mls_stitch.specs.declared.laid_tile.LaidTile.{LaidTile}
-use Rattle.mls_tilepool.specs.Pools.{room_of}
 use Rattle.mls_errorplane.specs.ErrorsIn.{marked_part}
 use Rattle.mls_errorplane.proofs.CarriedMarks.{length-found}
 use Rattle.mls_errorplane.proofs.ErrorsIn.{filter_map-few, strips-parts, under_room}

@@ -1,5 +1,4 @@
-use Rattle.std.proofs.Common.{◌≡◌, ◌∷◌, take, vec_capacity}
-use Rattle.std.specs.List.{filter_map}
+use Rattle.std.proofs.Common.{◌≡◌, ◌∷◌, take, vec_capacity, filter_map}
 use Rattle.mls_geom.specs.World.{world}
 use Rattle.mls_errorplane.specs.ErrorsIn.{marked_part}
 use Rattle.mls_errorplane.proofs.errors_in.list_parts.Given as goal

@@ -1,9 +1,6 @@
 use Rattle.std.proofs.Common.{ap, subst, ◌∙◌}
 use Rattle.std.proofs.lemmas.Result.{on_ok_weaker}
-use Rattle.mls_tilepool.specs.Pools.{Pool}
-use Rattle.mls_layout.specs.Uses.{flat_layout}
-use Rattle.mls_geom.specs.Layouts.{Layout}
-use Rattle.mls_checker.specs.Violations.{GainViolations}
+use Rattle.mls_errorplane.specs.Words.{GainViolations, Layout, Pool, flat_layout}
 use Rattle.mls_errorplane.proofs.GatheredViolations.{GainViolations-halves}
 use Rattle.mls_errorplane.proofs.gathering.+gather.Goals as goal
 

@@ -1,6 +1,5 @@
 -- the marked squares of the tiles so far, and what is left beside these and the space among them
-use Rattle.std.proofs.Common.{◌≡◌, ◌+◌, take}
-use Rattle.std.specs.List.{sum_by}
+use Rattle.std.proofs.Common.{◌≡◌, ◌+◌, take, sum_by}
 use Rattle.mls_geom.specs.Rects.{size_of}
 use Rattle.mls_errorplane.specs.PaintedMarks.{marked_part, space_size}
 use Rattle.mls_errorplane.proofs.marks.count_tiles.Given as goal

@@ -1,11 +1,5 @@
 use Rattle.std.proofs.Common.{◌≡◌, ℕ, ◌<◌, ◌↔◌, IsErr, false, true, refl, sym, ap, subst, ◌∙◌, arith}
-use Rattle.mls_checker.specs.Marking.{Marks, marks, square_count}
-use Rattle.mls_geom.specs.Pictures.{Picture, overlaid}
-use Rattle.mls_geom.specs.Rects.{Rect}
-use Rattle.mls_geom.specs.TileCounts.{tile_count}
-use Rattle.mls_geom.specs.World.{world}
-use Rattle.mls_paint.specs.Planes.{picture_in}
-use Rattle.mls_errorplane.specs.MarkPlanes.{marked_count, remarked}
+use Rattle.mls_errorplane.proofs.Words.{Marks, Picture, Rect, marked_count, marks, overlaid, picture_in, remarked, square_count, tile_count, world}
 use Rattle.mls_errorplane.proofs.RectCounts.{marked_count-anew, marked_count-part, marked_count-remarked}
 use Rattle.mls_errorplane.proofs.ShownBeside.{overlaid-found}
 use Rattle.mls_errorplane.proofs.ShownMarks.{on_ok, remarked-found}

@@ -1,5 +1,4 @@
-use Rattle.std.proofs.Common.{◌≡◌, take}
-use Rattle.std.specs.List.{sum_by}
+use Rattle.std.proofs.Common.{◌≡◌, take, sum_by}
 use Rattle.mls_errorplane.specs.PaintedMarks.{marked_part}
 use Rattle.mls_errorplane.proofs.marks.marked_in.Given as goal
 

@@ -1,9 +1,7 @@
-use Rattle.std.proofs.Common.{take, refl, arith}
-use Rattle.std.proofs.lemmas.List.{take_all}
+use Rattle.std.proofs.Common.{take, refl, arith, take_all}
 use Rattle.std.proofs.lemmas.List.Elements.{All-push}
-use Rattle.mls_checker.specs.Marking.{marks}
+use Rattle.mls_errorplane.proofs.Words.{IsSettled, marks}
 use Rattle.mls_checker.proofs.Prefixes.{take_next}
-use Rattle.mls_errorplane.specs.PaintedMarks.{IsSettled}
 use Rattle.mls_errorplane.proofs.shown_marks.are_settled.Goals as goal
 
 pub loop-tile-preserved : goal.loop-tile-preserved

@@ -1,11 +1,6 @@
 use Rattle.std.proofs.Common.{ap, sym, ◌∙◌}
-use Rattle.mls_edgerule.specs.RuleSets.{union}
-use Rattle.mls_tilepool.specs.Pools.{Pool}
-use Rattle.mls_layout.specs.Uses.{flat_layout}
-use Rattle.mls_checker.specs.Findings.{violated_rules}
+use Rattle.mls_errorplane.specs.Words.{Pool, flat_layout, union, violated_rules, within, zone_of}
 use Rattle.mls_errorplane.proofs.ViolatedParts.{violated_rules-parts}
-use Rattle.mls_checker.specs.Halos.{zone_of}
-use Rattle.mls_checker.specs.ZoneLayouts.{within}
 use Rattle.mls_errorplane.proofs.CheckedMarks.{flat-AgreeOutside}
 use Rattle.mls_errorplane.proofs.ViolatedNear.{violated_rules-zone}
 use Rattle.mls_errorplane.proofs.violated.+why.Goals as goal

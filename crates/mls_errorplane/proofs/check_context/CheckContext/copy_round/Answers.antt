@@ -1,9 +1,5 @@
 use Rattle.std.proofs.Common.{ap, ◌∙◌}
-use Rattle.mls_layout.specs.Uses.{flat_layout}
-use Rattle.mls_geom.specs.Rects.{Rect, common, grown}
-use Rattle.mls_geom.specs.World.{world}
-use Rattle.mls_checker.specs.Copies.{copied_layout}
-use Rattle.mls_checker.specs.ZoneLayouts.{within}
+use Rattle.mls_errorplane.specs.Words.{Rect, common, copied_layout, flat_layout, grown, within, world}
 use Rattle.mls_errorplane.proofs.check_context.CheckContext.copy_round.Goals as goal
 
 pub returns-clause-copied : goal.returns-clause-copied

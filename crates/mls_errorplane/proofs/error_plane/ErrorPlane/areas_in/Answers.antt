@@ -1,7 +1,5 @@
-use Rattle.std.proofs.Common.{◌∷◌, ◌++◌, ◌∙◌, [], List, Some, None, Vec, Global, ap, sym, take}
-use Rattle.std.proofs.lemmas.List.{append-nil}
-use Rattle.mls_geom.specs.Rects.{Rect, clipped}
-use Rattle.mls_errorplane.specs.ErrorsIn.{areas_in}
+use Rattle.std.proofs.Common.{◌∷◌, ◌++◌, ◌∙◌, [], List, Some, None, Vec, Global, ap, sym, take, append-nil}
+use Rattle.mls_errorplane.proofs.Words.{Rect, areas_in, clipped}
 use Rattle.mls_errorplane.proofs.ErrorsIn.{filter_map-more}
 use Rattle.mls_errorplane.proofs.error_plane.ErrorPlane.areas_in.Goals as goal
 use Rattle.mls_errorplane.proofs.error_plane.ErrorPlane.areas_in.Goals.{in-Some+in_ok-push, in_default}

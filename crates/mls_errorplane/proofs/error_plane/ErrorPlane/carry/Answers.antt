@@ -1,12 +1,5 @@
 use Rattle.std.proofs.Common.{◌≡◌, ◌+◌, ◌≤◌, ℕ, refl, sym, ap, subst, ◌∙◌, arith}
-use Rattle.mls_geom.specs.Pictures.{Picture}
-use Rattle.mls_geom.specs.TileCounts.{tile_count}
-use Rattle.mls_geom.specs.World.{world}
-use Rattle.mls_paint.specs.Planes.{HasStrips, picture_in}
-use Rattle.mls_checker.specs.Marking.{SquareSet}
-use Rattle.mls_errorplane.specs.Carrying.{AreFew, likened}
-use Rattle.mls_errorplane.specs.ErrorPlanes.{ErrorPlane, marks_picture}
-use Rattle.mls_errorplane.specs.MarkPlanes.{is_marked, marked_count, remarked}
+use Rattle.mls_errorplane.proofs.Words.{AreFew, ErrorPlane, HasStrips, Picture, SquareSet, is_marked, likened, marked_count, marks_picture, picture_in, remarked, tile_count, world}
 use Rattle.mls_errorplane.proofs.CarriedCounts.{AreCarried-remarked, AreFew-carried}
 use Rattle.mls_errorplane.proofs.CarriedMarks.{carried-few, carried-recount, remarked-shows}
 use Rattle.mls_errorplane.proofs.PaintedPieces.{overlaid-part}

@@ -1,13 +1,6 @@
 use Rattle.std.proofs.Common.{◌≡◌, ℕ, ◌+◌, ◌*◌, ◌^◌, ◌≤◌, refl, sym, ap, subst, ◌∙◌, arith}
-use Rattle.mls_geom.specs.Layouts.{Layout}
-use Rattle.mls_stitch.specs.Tilings.{ChangesOnly}
+use Rattle.mls_errorplane.proofs.Words.{AreRightIn, ChangesOnly, ErrorPlane, HasCaughtUp, HasStepped, IsDirtyList, Layout, StandsApart, Stepped, Steps, UnlessDone, area_of, checking_of, first_piece_of, flat_layout}
 use Rattle.mls_stitch.proofs.PoolChanges.{ChangesOnly-refl, ChangesOnly-trans}
-use Rattle.mls_layout.specs.Uses.{flat_layout}
-use Rattle.mls_errorplane.specs.ErrorPlanes.{ErrorPlane, HasStepped, StandsApart, UnlessDone, checking_of}
-use Rattle.mls_errorplane.specs.DirtyLists.{IsDirtyList, area_of, first_piece_of}
-use Rattle.mls_errorplane.specs.CatchingUp.{HasCaughtUp, Steps}
-use Rattle.mls_errorplane.specs.Stretches.{AreRightIn}
-use Rattle.mls_errorplane.specs.declared.error_plane.Stepped.{Stepped}
 use Rattle.mls_errorplane.specs.declared.error_plane.Stepped.TheVariants.{Done, Full, Idle, Memory}
 use Rattle.mls_errorplane.proofs.AreaSizes.{area_of-le}
 use Rattle.mls_errorplane.proofs.StepsDone.{HasCaughtUp-ended, HasLayout-apart, area_of-Done, ended, few-Done, flat_layout-apart, no_piece}

@@ -1,20 +1,9 @@
 use Rattle.std.proofs.Common.{◌≡◌, ℕ, false, List, refl, sym, ap, subst, ◌∙◌}
-use Rattle.mls_edgerule.specs.declared.edge_rule.EdgeRule.{EdgeRule}
-use Rattle.mls_geom.specs.Layouts.{Layout}
-use Rattle.mls_geom.specs.Rects.{Rect}
-use Rattle.mls_layout.specs.Uses.{flat_layout}
-use Rattle.mls_checker.specs.Marking.{SquareSet}
-use Rattle.mls_paint.specs.Planes.{picture_in}
-use Rattle.mls_tilepool.specs.Pools.{Pool}
-use Rattle.mls_errorplane.specs.CatchingUp.{Steps}
-use Rattle.mls_errorplane.specs.DirtyLists.{IsDirtyList}
-use Rattle.mls_errorplane.specs.ErrorPlanes.{ErrorPlane}
-use Rattle.mls_errorplane.specs.MarkPlanes.{is_marked}
-use Rattle.mls_errorplane.specs.Stretches.{AreRight, AreSound, DropsAll, DropsIn, DropsKnown}
-use Rattle.mls_errorplane.specs.declared.stretch.Stretch.{Stretch}
+use Rattle.mls_errorplane.proofs.Words.{AreRight, AreSound, DropsAll, DropsIn, DropsKnown, EdgeRule, ErrorPlane, IsDirtyList, Layout, Pool, Rect, SquareSet, Steps, Stretch, flat_layout, is_marked, picture_in}
 use Rattle.mls_errorplane.proofs.CarriedCounts.{IfSome-leads}
+use Rattle.mls_errorplane.proofs.CheckedMarks.{checking_with}
 use Rattle.mls_errorplane.proofs.DroppedRows.{DropsAll-DropsIn}
-use Rattle.mls_errorplane.proofs.StretchSteps.{DropsIn-Steps, DropsIn-fewer, ShowsMarks-lent, checking_with}
+use Rattle.mls_errorplane.proofs.StretchSteps.{DropsIn-Steps, DropsIn-fewer, ShowsMarks-lent}
 use Rattle.mls_errorplane.proofs.error_plane.ErrorPlane.drop_one_stretch.Goals as goal
 use Rattle.mls_errorplane.proofs.error_plane.ErrorPlane.drop_one_stretch.Goals.{After-drop_known}
 

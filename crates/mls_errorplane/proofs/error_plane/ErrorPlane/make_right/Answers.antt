@@ -1,24 +1,13 @@
 -- Marks that the error plane shows already are right; those that it doesn't show are carried.
 use Rattle.std.proofs.Common.{◌≡◌, ℕ, true, inl, inr, refl, sym, ap, subst, ◌∙◌}
 use Rattle.std.proofs.lemmas.Bool.{cases_Bool}
-use Rattle.mls_geom.specs.Layouts.{Layout}
-use Rattle.mls_geom.specs.Pictures.{Picture}
-use Rattle.mls_geom.specs.Rects.{Rect}
-use Rattle.mls_tilepool.specs.Pools.{Pool}
-use Rattle.mls_layout.specs.Uses.{flat_layout}
-use Rattle.mls_paint.specs.Planes.{picture_in}
-use Rattle.mls_checker.specs.Marking.{SquareSet}
+use Rattle.mls_errorplane.proofs.Words.{AreCarried, AreFew, AreRight, AreSound, ErrorPlane, Layout, Picture, Pool, Rect, ShowsAlike, SquareSet, Steps, flat_layout, is_marked, picture_in}
 use Rattle.mls_layout.proofs.LentPlanes.{lent-same}
-use Rattle.mls_errorplane.specs.Carrying.{AreCarried, AreFew}
-use Rattle.mls_errorplane.specs.CatchingUp.{Steps}
-use Rattle.mls_errorplane.specs.ErrorPlanes.{ErrorPlane}
-use Rattle.mls_errorplane.specs.MarkPlanes.{is_marked}
-use Rattle.mls_errorplane.specs.Stretches.{AreRight, AreSound}
-use Rattle.mls_layout.specs.Likenesses.{ShowsAlike}
 use Rattle.mls_errorplane.proofs.CarriedMarks.{AreRight-carried, AreRightIn-kept, fits-after}
 use Rattle.mls_errorplane.proofs.CarriedSteps.{carried}
 use Rattle.mls_errorplane.proofs.DroppedRows.{DropsAll-DropsIn}
-use Rattle.mls_errorplane.proofs.StretchSteps.{AreRight-alike, DropsIn-Steps, checking_with}
+use Rattle.mls_errorplane.proofs.CheckedMarks.{checking_with}
+use Rattle.mls_errorplane.proofs.StretchSteps.{AreRight-alike, DropsIn-Steps}
 use Rattle.mls_errorplane.proofs.error_plane.ErrorPlane.make_right.Goals as goal
 use Rattle.mls_errorplane.proofs.error_plane.ErrorPlane.make_right.Goals.{After-shows_alike}
 

@@ -1,15 +1,6 @@
 use Rattle.std.proofs.Common.{◌≡◌, ◌+◌, ◌<◌, ℕ, IsErr, Result, Ok, Err, refl, sym, ap, subst, ◌∙◌}
 use Rattle.std.proofs.lemmas.Bool.{false≢true}
-use Rattle.mls_geom.specs.Pictures.{Picture}
-use Rattle.mls_geom.specs.TileCounts.{tile_count}
-use Rattle.mls_geom.specs.World.{world}
-use Rattle.mls_checker.specs.Marking.{marks}
-use Rattle.mls_tilepool.specs.Pools.{Pool}
-use Rattle.mls_paint.specs.Planes.{HasStrips, picture_in}
-use Rattle.mls_errorplane.specs.DirtyLists.{dropped}
-use Rattle.mls_errorplane.specs.ErrorPlanes.{ErrorPlane, HasStepped, checking_of, marks_picture, stepped_of}
-use Rattle.mls_errorplane.specs.MarkPlanes.{is_marked, marked_count, remarked}
-use Rattle.mls_errorplane.specs.declared.error_plane.Stepped.{Stepped}
+use Rattle.mls_errorplane.proofs.Words.{ErrorPlane, HasStepped, HasStrips, Picture, Pool, Stepped, checking_of, dropped, is_marked, marked_count, marks, marks_picture, picture_in, remarked, stepped_of, tile_count, world}
 use Rattle.mls_errorplane.specs.declared.error_plane.Stepped.TheVariants.{Full}
 use Rattle.mls_errorplane.proofs.CarriedMarks.{remarked-shows}
 use Rattle.mls_errorplane.proofs.CheckedMarks.{HasStepped-Done, HasStepped-Full, checked-marks_picture}

@@ -1,12 +1,6 @@
 use Rattle.std.proofs.Common.{List, ◌++◌, subst, ap, ◌∙◌, rules}
-use Rattle.mls_geom.specs.Locality.{AreCoveredStrips, laid}
-use Rattle.mls_geom.specs.StripLists.{strips_of}
-use Rattle.mls_geom.specs.World.{world}
-use Rattle.mls_geom.specs.declared.piece.Piece.{Piece}
-use Rattle.mls_paint.specs.Planes.{picture_in}
-use Rattle.mls_errorplane.specs.ErrorPlanes.{ErrorPlane, marks_picture}
+use Rattle.mls_errorplane.proofs.Words.{AreCoveredStrips, ErrorPlane, Piece, is_marked, laid, marks_picture, picture_in, strips_of, world}
 use Rattle.mls_errorplane.specs.ErrorsIn.{squares_in}
-use Rattle.mls_errorplane.specs.MarkPlanes.{is_marked}
 use Rattle.mls_errorplane.proofs.error_plane.ErrorPlane.marks_in.Goals as goal
 
 pub returns-clause-strips : goal.returns-clause-strips

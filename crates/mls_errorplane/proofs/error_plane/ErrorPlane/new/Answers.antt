@@ -1,8 +1,5 @@
 use Rattle.std.proofs.Common.{ap, sym, ◌∙◌}
-use Rattle.mls_geom.specs.Pictures.{Picture}
-use Rattle.mls_paint.specs.Planes.{picture_in}
-use Rattle.mls_errorplane.specs.ErrorPlanes.{marks_picture}
-use Rattle.mls_errorplane.specs.MarkPlanes.{is_marked}
+use Rattle.mls_errorplane.proofs.Words.{Picture, is_marked, marks_picture, picture_in}
 use Rattle.mls_errorplane.proofs.RectCounts.{marked_count-space}
 use Rattle.mls_errorplane.proofs.error_plane.ErrorPlane.new.Goals as goal
 

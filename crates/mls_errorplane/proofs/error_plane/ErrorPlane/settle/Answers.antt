@@ -1,13 +1,7 @@
 use Rattle.std.proofs.Common.{refl, sym, subst, ◌∙◌, arith}
 use Rattle.std.proofs.lemmas.Bool.Decides.{nat_tests}
-use Rattle.mls_geom.specs.Layouts.{Layout}
-use Rattle.mls_stitch.specs.Tilings.{ChangesOnly}
+use Rattle.mls_errorplane.proofs.Words.{AreRight, AreRightIn, AreSound, ChangesOnly, Layout, Steps, Trial, checking_of, flat_layout}
 use Rattle.mls_stitch.proofs.PoolChanges.{ChangesOnly-refl, ChangesOnly-trans}
-use Rattle.mls_layout.specs.Uses.{flat_layout}
-use Rattle.mls_errorplane.specs.CatchingUp.{Steps}
-use Rattle.mls_errorplane.specs.ErrorPlanes.{checking_of}
-use Rattle.mls_errorplane.specs.Stretches.{AreRight, AreRightIn, AreSound}
-use Rattle.mls_errorplane.specs.declared.stretches.Trial.{Trial}
 use Rattle.mls_errorplane.proofs.AreaSizes.{area_of-le}
 use Rattle.mls_errorplane.proofs.StepsDone.{HasLayout-apart, flat_layout-apart}
 use Rattle.mls_errorplane.proofs.StretchSteps.{Steps-then}
@@ -38,8 +32,8 @@ stretches-init c = record {
   owner = refl;
 }
 
-pub expected_of-expected-requires : goal.expected_of-expected-requires
-expected_of-expected-requires c =
+pub expected_alike-expected-requires : goal.expected_alike-expected-requires
+expected_alike-expected-requires c =
     let so_far = c.stretches.invariant in
     let only = ChangesOnly-trans so_far.only (subst (ChangesOnly c.stretches.workspace.pool c.drop_one_stretch.new.workspace.pool) so_far.owner c.drop_one_stretch.ensures.only) in
     HasLayout-apart c.args.workspace.now.pool c.drop_one_stretch.new.workspace.pool c.args.self.now.owner only c.args.planes.now
@@ -60,7 +54,7 @@ stretches-preserved c =
     let found = c.in-Some.ensures in
     let stretch = c.in-Some.stretch in
     let here = flat_layout-apart c.args.workspace.now.pool c.stretches.workspace.pool c.args.self.now.owner so_far.only uses c.args.planes.now c.requires.apart in
-    rw c.expected_of-expected.ensures
+    rw c.expected_alike-expected.ensures
     (record {
       steps = Steps-then rules layout c.args.limit c.stretches.steps stretch.pieces old mid new so_far.steps
           (subst (λ (l : Layout). Steps rules l c.args.limit stretch.pieces mid new) here found.steps);

@@ -1,12 +1,5 @@
 use Rattle.std.proofs.Common.{◌≡◌, Some, sym, ap, subst, ◌∙◌}
-use Rattle.mls_geom.specs.Rects.{Rect}
-use Rattle.mls_checker.specs.Marking.{marks}
-use Rattle.mls_tilepool.specs.Pools.{Pool}
-use Rattle.mls_layout.specs.Uses.{flat_layout}
-use Rattle.mls_errorplane.specs.DirtyLists.{first_piece_of}
-use Rattle.mls_errorplane.specs.ErrorPlanes.{ErrorPlane, HasStepped, checking_of, stepped_of}
-use Rattle.mls_errorplane.specs.Stretches.{AreRight}
-use Rattle.mls_errorplane.specs.declared.error_plane.Stepped.{Stepped}
+use Rattle.mls_errorplane.proofs.Words.{AreRight, ErrorPlane, HasStepped, Pool, Rect, Stepped, checking_of, first_piece_of, flat_layout, marks, stepped_of}
 use Rattle.mls_errorplane.specs.declared.error_plane.Stepped.TheVariants.{Done, Full}
 use Rattle.mls_errorplane.proofs.error_plane.ErrorPlane.step.Goals as goal
 use Rattle.mls_errorplane.proofs.error_plane.ErrorPlane.step.Goals.{After-mark_first}

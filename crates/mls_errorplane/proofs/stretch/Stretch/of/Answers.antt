@@ -1,6 +1,5 @@
 use Rattle.std.proofs.Common.{◌∷◌, subst}
-use Rattle.mls_geom.specs.Rects.{Rect}
-use Rattle.mls_errorplane.specs.Stretches.{IsNext}
+use Rattle.mls_errorplane.proofs.Words.{IsNext, Rect}
 use Rattle.mls_errorplane.proofs.stretch.Stretch.of.Goals as goal
 
 pub returns-then-lines-le-PIECE_SIDE : goal.returns-then-lines-le-PIECE_SIDE
