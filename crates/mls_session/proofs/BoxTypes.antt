@@ -1,13 +1,8 @@
 -- The types of the first planes: one plane more adds its types.
 use Rattle.std.proofs.Common.{◌≡◌, ℕ, ◌+◌, Option, Some, sym, ap, ◌∙◌}
 use Rattle.std.proofs.Math.Path.{fun_ext}
-use Rattle.mls_kinds.specs.KindSets.{set_of, union}
+use Rattle.mls_session.proofs.Words.{Config, Drawn, Kinds, Layout, Rect, kinds_in, layout_of, set_of, shows, shows_type, types_in, union, what_step}
 use Rattle.mls_kinds.proofs.KindSetLemmas.{set_of_none, union-set_of}
-use Rattle.mls_geom.specs.Layouts.{Layout}
-use Rattle.mls_geom.specs.Rects.{Rect}
-use Rattle.mls_geom.specs.Pictures.{kinds_in, shows}
-use Rattle.mls_session.specs.Own.{Config, Drawn, layout_of, shows_type, types_in, what_step}
-use Rattle.mls_session.specs.declared.reply.Reply.TheVariants.{Kinds}
 use Rattle.mls_library.proofs.FirstPlanes.{any_more}
 
 pub types_none : (layout : Layout) (e : Rect) → types_in 0 layout e ≡ 0

@@ -1,21 +1,16 @@
 -- Catching up does check steps until there is none that is accepted: each leaves fewer squares in the areas, so there are no more than squares.
-use Rattle.std.proofs.Common.{◌≡◌, ◌≢◌, ◌+◌, ◌-◌, ◌<◌, ◌≤◌, ℕ, zero, suc, Option, Some, None, List, [], ◌∷◌, refl, sym, ap, ◌∙◌, subst, arith}
-use Rattle.std.specs.Option.{option_and_then, option_map_or}
-use Rattle.std.proofs.lemmas.List.Elements.{All-head}
+use Rattle.std.proofs.Common.{◌≡◌, ◌≢◌, ◌+◌, ◌-◌, ◌<◌, ◌≤◌, ℕ, zero, suc, Option, Some, None, List, [], ◌∷◌, refl, sym, ap, ◌∙◌, subst, arith, option_and_then}
+use Rattle.std.specs.Option.{option_map_or}
 use Rattle.std.proofs.lemmas.Option.{same_Some}
-use Rattle.mls_errorplane.specs.DirtyLists.{IsDirtyList, area_of, dropped}
+use Rattle.mls_session.proofs.Words.{Config, Designed, IsDirtyList, Rect, area_of, catch_up_step, caught_up, checked, checked_times, dropped, ending}
 use Rattle.mls_errorplane.proofs.AreaSizes.{area_of-dropped-less}
 use Rattle.mls_errorplane.proofs.KeptLists.{IsDirtyList-dropped}
-use Rattle.mls_geom.specs.Rects.{Rect, IsRectangleIn}
-use Rattle.mls_geom.specs.World.{world}
-use Rattle.mls_session.specs.Own.{Config, Designed}
-use Rattle.mls_session.specs.OwnSteps.{catch_up_step, caught_up, checked, checked_times, ending}
 use Rattle.mls_session.proofs.CheckedDesigns.{checked_some}
 
 -- ---- squares in the areas
 fewer : (areas : List Rect) → IsDirtyList areas → areas ≢ [] → area_of (dropped areas) < area_of areas
 fewer [] kept some = absurd (some refl)
-fewer (first ∷ rest) kept some = area_of-dropped-less first rest (All-head (IsRectangleIn world) first rest kept.legal)
+fewer (first ∷ rest) kept some = area_of-dropped-less first rest (kept.legal 0 first (omega arith))
 
 -- an accepted step leaves fewer
 pub checked-fewer :

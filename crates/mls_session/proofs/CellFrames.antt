@@ -1,13 +1,8 @@
 -- A command changes tiles of the design's planes alone, so the library's cells stay as they are.
 use Rattle.std.proofs.Common.{◌≡◌, ℕ, suc, List, [], ◌∷◌, All, get_or, refl, sym, ap, subst, ◌∙◌, arith}
-use Rattle.mls_tilepool.specs.Pools.{Pool}
-use Rattle.mls_layout.specs.Uses.{cell_layouts}
+use Rattle.mls_session.proofs.Words.{CanDump, ChangesAmong, Pool, Setup, ShowsOwnTypes, cell_layouts}
 use Rattle.mls_library.specs.Libraries.{IsHome as AreCellsHome, Library, ShowOwnTypes, cell_layout}
-use Rattle.mls_library.specs.SavedCells.{ShowsOwnTypes}
 use Rattle.mls_library.proofs.KeptCells.{IsCellApart, IsHome-ChangesAmong, cell_layout-ChangesAmong}
-use Rattle.mls_paint.specs.Owners.{ChangesAmong}
-use Rattle.mls_session.specs.Designs.{CanDump}
-use Rattle.mls_session.specs.declared.setup.Setup.{Setup}
 
 module _ (old new : Pool) (owners : List ℕ) (only : ChangesAmong old new owners) where
   -- they are at home

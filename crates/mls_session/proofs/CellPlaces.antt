@@ -1,25 +1,9 @@
 -- A cell of the library that is to be dumped or placed: its layout, where it lies, and the command's step.
-use Rattle.std.proofs.Common.{◌≡◌, ℕ, ℤ, ◌≤◌, ◌<◌, ◌∷◌, ◌++◌, [], true, false, Option, Some, Ok, Err, List, length, slice_get, refl, sym, ap, ◌∙◌}
-use Rattle.std.specs.Option.{option_map}
-use Rattle.mls_geom.specs.Rects.{Rect}
-use Rattle.mls_tilepool.specs.Pools.{Pool}
-use Rattle.mls_layout.specs.Uses.{most_uses}
-use Rattle.mls_library.specs.Bounds.{painted_bounds}
+use Rattle.std.proofs.Common.{◌≡◌, ℕ, ℤ, ◌≤◌, ◌<◌, ◌∷◌, ◌++◌, [], true, false, Option, Some, Ok, Err, List, length, slice_get, refl, sym, ap, ◌∙◌, option_map}
+use Rattle.mls_session.proofs.Words.{CanDump, CellOutside, Design, Designed, Pool, Rect, Refusal, Setup, TooManyUses, cell_at, change_step, checking_of, config_of, design_step, designed_of, dirty_after, dump_step, dumped_in, dumped_layout, dumped_rect, edit_step, get_step, layout_in, layout_leaves_world, most_uses, painted_bounds, placed_bounds}
 use Rattle.mls_library.proofs.FoundCells.{smallest_found}
-use Rattle.mls_paint.specs.Planes.{layout_in}
-use Rattle.mls_errorplane.specs.ErrorPlanes.{checking_of}
-use Rattle.mls_session.specs.Bounds.{dumped_rect}
-use Rattle.mls_session.specs.Changes.{layout_leaves_world}
-use Rattle.mls_session.specs.Designs.{CanDump, Design, designed_of}
-use Rattle.mls_session.specs.Inner.{placed_bounds}
-use Rattle.mls_session.specs.Own.{Designed, cell_at, change_step, dump_step, dumped_in, dumped_layout, edit_step, get_step, dirty_after}
-use Rattle.mls_session.specs.OwnSteps.{design_step}
-use Rattle.mls_session.specs.Setups.{config_of}
 use Rattle.mls_session.specs.declared.command.Command.TheVariants.{Dump, GetCell}
-use Rattle.mls_session.specs.declared.refusal.Refusal.{Refusal}
-use Rattle.mls_session.specs.declared.refusal.Refusal.TheVariants.{CellOutside, TooManyUses}
 use Rattle.mls_session.specs.declared.reply.Reply.TheVariants.{Done, Refused}
-use Rattle.mls_session.specs.declared.setup.Setup.{Setup}
 use Rattle.mls_session.proofs.CommandSteps.{edit_step-Refused}
 use Rattle.mls_session.proofs.DumpedCells.{HasPlanes, cell_at-HasPlanes, dump_step-CellOutside, dump_step-change_step, planes_there}
 use Rattle.mls_session.proofs.PlacedBounds.{placed-Err, placed-Ok}

@@ -3,23 +3,11 @@ use Rattle.std.proofs.Common.{◌≡◌, ◌≢◌, Bool, true, false, ℕ, ℤ,
 use Rattle.std.proofs.Math.Path.{fun_ext}
 use Rattle.std.proofs.lemmas.Bool.{cases_eq, cases_lt}
 use Rattle.std.proofs.lemmas.List.{get_or_default}
-use Rattle.std.proofs.lemmas.Option.{slice_get_past}
 use Rattle.mls_kinds.specs.KindSets.{has_bit as has_type}
-use Rattle.mls_geom.specs.Layouts.{Layout}
-use Rattle.mls_geom.specs.Pictures.{Picture, empty_picture}
-use Rattle.mls_geom.specs.Rects.{holds}
-use Rattle.mls_geom.specs.declared.piece.Piece.{Piece}
-use Rattle.mls_tilepool.specs.Pools.{Pool, tiles_of}
-use Rattle.mls_stitch.specs.Tilings.{ChangesOnly, shown}
-use Rattle.mls_paint.specs.Owners.{ChangesAmong}
-use Rattle.mls_paint.specs.Planes.{HasStrips, layout_in, picture_at, picture_in}
+use Rattle.mls_session.proofs.Words.{AreAtHome, Change, ChangesAmong, ChangesOnly, Design, HasStrips, Layout, ListsChange, Picture, Piece, Pool, ReadsAtMost, changed, changed_layout, dumped, empty_picture, holds, kind_or_space, layout_in, moved_picture, painted_over, picture_in, shown, tiles_of}
 use Rattle.mls_paint.proofs.OwnerFrames.{ChangesAmong-ChangesOnly, ChangesAmong-refl, ChangesAmong-trans, layout_in-at}
-use Rattle.mls_layout.specs.Moves.{kind_or_space, moved_picture}
-use Rattle.mls_session.specs.Changes.{dumped}
-use Rattle.mls_session.specs.Inner.{ListsChange, ReadsAtMost, changed, changed_layout, painted_over}
-use Rattle.mls_session.specs.Designs.{AreAtHome, Design}
-use Rattle.mls_session.specs.declared.change.Change.{Change}
 use Rattle.mls_session.specs.declared.change.Change.TheVariants.{Erase, Dump}
+use Rattle.mls_session.proofs.DumpedRects.{layout_in-beyond}
 use Rattle.mls_session.proofs.HomePlanes.{AreAtHome-ChangesOnly, owners_differ}
 
 -- ---- plane by plane
@@ -102,12 +90,9 @@ space_either : (b : Bool) (kind : ℕ) → (if b then kind else kind) ≡ kind
 space_either true kind = refl
 space_either false kind = refl
 
-layout_in-past : (pool : Pool) (owners : List ℕ) (plane : ℕ) → length owners ≤ plane → layout_in pool owners plane ≡ empty_picture
-layout_in-past pool owners plane past = ap (picture_at pool) (slice_get_past owners plane past)
-
 -- past a cell's last plane a dump paints nothing
 pub dumped-past : (pool : Pool) (owners : List ℕ) (plane : ℕ) (dx dy : ℤ) (below : Picture) → length owners ≤ plane → dumped below (layout_in pool owners plane) dx dy ≡ below
-dumped-past pool owners plane dx dy below past = ap (λ over. dumped below over dx dy) (layout_in-past pool owners plane past) ∙ dumped-space below dx dy
+dumped-past pool owners plane dx dy below past = ap (λ over. dumped below over dx dy) (layout_in-beyond pool owners plane past) ∙ dumped-space below dx dy
 
 changed-past : (pool : Pool) (change : Change) (count plane : ℕ) → ReadsAtMost count change → count ≤ plane → changed pool change plane empty_picture ≡ empty_picture
 changed-past pool (Erase rect kinds) count plane few past = fun_ext (λ x. fun_ext (λ y. space_either (holds rect x y && has_type kinds 0) 0))
@@ -126,6 +111,6 @@ layout_in-changed old new design change pieces few listed painted = fun_ext at_p
     at_plane plane = elim (cases_lt plane (length design.planes)) [
       | inl within ↦ painted plane within ∙ listed plane within
       | inr past ↦
-          layout_in-past new design.planes plane past ∙ sym (changed-past old change (length design.planes) plane few past)
-          ∙ ap (changed old change plane) (sym (layout_in-past old design.planes plane past))
+          layout_in-beyond new design.planes plane past ∙ sym (changed-past old change (length design.planes) plane few past)
+          ∙ ap (changed old change plane) (sym (layout_in-beyond old design.planes plane past))
     ]

@@ -3,16 +3,8 @@ use Rattle.std.proofs.Common.{◌≡◌, Bool, true, false, not, ℕ, ◌<◌, n
 use Rattle.std.specs.List.{list_any, range_with_len}
 use Rattle.std.proofs.lemmas.Bool.{cases_lt, false_from_ne_true}
 use Rattle.std.proofs.lemmas.Bool.Decides.{nat_tests}
-use Rattle.mls_geom.specs.Layouts.{Layout}
-use Rattle.mls_geom.specs.Pictures.{Picture}
-use Rattle.mls_geom.specs.TileCounts.{tile_count}
-use Rattle.mls_geom.specs.World.{world}
-use Rattle.mls_tech.specs.Readings.{nothing_read}
-use Rattle.mls_session.specs.Inner.{FitsQuota}
-use Rattle.mls_session.specs.Own.{Config, Drawn, change_step, exceeds_quota}
-use Rattle.mls_session.specs.declared.reply.Reply.{Reply}
+use Rattle.mls_session.proofs.Words.{Config, Drawn, FitsQuota, Layout, Picture, Quota, Reply, change_step, exceeds_quota, nothing_read, tile_count, world}
 use Rattle.mls_session.specs.declared.reply.Reply.TheVariants.{Done, Refused}
-use Rattle.mls_session.specs.declared.refusal.Refusal.TheVariants.{Quota}
 use Rattle.mls_library.proofs.FirstPlanes.{any_at}
 
 -- the plane of the layout would have more tiles

@@ -1,15 +1,10 @@
 -- The check steps of an error plane are those of a session's own machine.
-use Rattle.std.proofs.Common.{◌≡◌, ◌≢◌, ◌==◌, ℕ, zero, suc, Bool, true, false, ◌||◌, cond, Option, Some, None, List, [], ◌∷◌, length, refl, sym, ap, ◌∙◌, arith}
-use Rattle.std.specs.Option.{option_and_then, option_map}
-use Rattle.std.proofs.lemmas.Bool.{cond-false, cond-true, ne_eqb, or_from, or_left, or_parts, or_right, true≢false}
+use Rattle.std.proofs.Common.{◌≡◌, ◌≢◌, ◌==◌, ℕ, zero, suc, Bool, true, false, ◌||◌, cond, Option, Some, None, List, [], ◌∷◌, length, refl, sym, ap, ◌∙◌, arith, option_and_then, option_map, ne_eqb, true≢false, subst}
+use Rattle.std.specs.Option.{option_map_or}
+use Rattle.std.proofs.lemmas.Bool.{cond-false, cond-true, or_from, or_left, or_parts, or_right}
 use Rattle.std.proofs.lemmas.Option.{same_Some}
-use Rattle.mls_errorplane.specs.CatchingUp.{Steps}
-use Rattle.mls_errorplane.specs.Checkings.{Checking}
-use Rattle.mls_errorplane.specs.ErrorPlanes.{HasStepped, exceeds}
+use Rattle.mls_session.proofs.Words.{Checking, Config, Designed, HasStepped, OwnState, Rect, Steps, Terms, caught_up, checked, checked_times, checks, ending, exceeds, layout_of, next_checking, own_check}
 use Rattle.mls_errorplane.specs.declared.error_plane.Stepped.TheVariants as stepped
-use Rattle.mls_geom.specs.Rects.{Rect}
-use Rattle.mls_session.specs.Own.{Config, Designed, layout_of}
-use Rattle.mls_session.specs.OwnSteps.{OwnState, Terms, checked, checked_times, checks, next_checking, own_check}
 
 -- ---- one step
 pub some_left : (areas : List Rect) → areas ≢ [] → (length areas == 0) ≡ false
@@ -75,6 +70,28 @@ module _ (config : Config) (mid new : Designed) where
       (count : ℕ) (old : Designed) → checked_times count config old ≡ Some mid → checked config mid ≡ Some new → checked_times (suc count) config old ≡ Some new
   checked_times-last zero old is last = ap (option_and_then (checked_times zero config)) (ap (checked config) (same_Some old mid is) ∙ last)
   checked_times-last (suc count) old is last = after_next count (checked config old) (λ own done. checked_times-last count own done last) is
+
+-- what each accepted step keeps is kept by some of them, and by catching up
+module _ (config : Config) (Q : Designed → Type 0) (keeps : (old new : Designed) → checked config old ≡ Some new → Q old → Q new) where
+  times_next :
+      (count : ℕ) (old new : Designed) (next : Option Designed) → checked config old ≡ next → ((mid : Designed) → checked_times count config mid ≡ Some new → Q mid → Q new)
+      → option_and_then (checked_times count config) next ≡ Some new → Q old → Q new
+  times_next count old new None at more is q = absurd cc
+  times_next count old new (Some mid) at more is q = more mid is (keeps old mid at q)
+
+  pub checked_times-keeps : (count : ℕ) (old new : Designed) → checked_times count config old ≡ Some new → Q old → Q new
+  checked_times-keeps zero old new is q = subst Q (same_Some old new is) q
+  checked_times-keeps (suc count) old new is q = times_next count old new (checked config old) refl (λ mid. checked_times-keeps count mid new) is q
+
+  caught_up_next :
+      (count : ℕ) (old : Designed) (next : Option Designed) → checked config old ≡ next → ((mid : Designed) → Q mid → Q (caught_up count config mid).0)
+      → Q old → Q (option_map_or (caught_up count config) next (old, ending old)).0
+  caught_up_next count old None at more q = q
+  caught_up_next count old (Some mid) at more q = more mid (keeps old mid at q)
+
+  pub caught_up-keeps : (count : ℕ) (old : Designed) → Q old → Q (caught_up count config old).0
+  caught_up-keeps zero old q = q
+  caught_up-keeps (suc count) old q = caught_up_next count old (checked config old) refl (caught_up-keeps count) q
 
 -- those of the error plane
 pub checked_times-Steps :

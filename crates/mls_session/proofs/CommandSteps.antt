@@ -1,22 +1,7 @@
 -- The steps of commands, from what a design's layout and its error plane do.
 use Rattle.std.proofs.Common.{◌≡◌, ℕ, Option, Some, None, List, length, refl, sym, ap, ◌∙◌, subst}
-use Rattle.mls_edgerule.specs.declared.edge_rule.EdgeRule.{EdgeRule}
-use Rattle.mls_geom.specs.Rects.{Rect}
-use Rattle.mls_tilepool.specs.Pools.{Pool}
-use Rattle.mls_stitch.specs.Tilings.{ChangesOnly}
-use Rattle.mls_errorplane.specs.CatchingUp.{HasCaughtUp}
-use Rattle.mls_errorplane.specs.Checkings.{Checking}
-use Rattle.mls_errorplane.specs.DirtyLists.{IsDirtyList}
-use Rattle.mls_errorplane.specs.ErrorPlanes.{checking_of}
-use Rattle.mls_errorplane.specs.declared.catching_up.CaughtUp.{CaughtUp}
-use Rattle.mls_session.specs.Inner.{Counts, caught_up_reply, steps_of}
-use Rattle.mls_session.specs.Own.{Config, Designed, Drawn, check_in, edit_step, layout_of, dirty_after}
-use Rattle.mls_session.specs.OwnSteps.{DesignSteps}
+use Rattle.mls_session.proofs.Words.{CatchUp, CaughtUp, ChangesOnly, Checking, Config, Counts, DesignSteps, Designed, Drawn, EdgeRule, Executed, HasCaughtUp, IsDirtyList, Pool, Rect, Refusal, Reply, caught_up_reply, check_in, checking_of, dirty_after, edit_step, layout_of, steps_of}
 use Rattle.mls_session.specs.Designs.{Design, IsHome, designed_of, drawn_of}
-use Rattle.mls_session.specs.declared.command.Command.TheVariants.{CatchUp}
-use Rattle.mls_session.specs.declared.executed.Executed.{Executed}
-use Rattle.mls_session.specs.declared.refusal.Refusal.{Refusal}
-use Rattle.mls_session.specs.declared.reply.Reply.{Reply}
 use Rattle.mls_session.specs.declared.reply.Reply.TheVariants.{Done, Refused}
 use Rattle.mls_session.proofs.DesignSteps.{Counts-caught_up, DesignSteps-caught_up}
 use Rattle.mls_session.proofs.ErrorPlanes.{drawn-errors}

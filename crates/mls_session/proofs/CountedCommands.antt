@@ -1,15 +1,8 @@
 -- The check steps that are counted after a command: they fit.
-use Rattle.std.proofs.Common.{◌≡◌, inl, inr, ◌+◌, ◌^◌, ◌<◌, ◌≤◌, ℕ, Bool, true, false, Some, sym, refl, ap, ◌∙◌, subst, arith}
-use Rattle.std.proofs.lemmas.Bool.{cond-false, cond-true, true≢false}
-use Rattle.mls_errorplane.specs.DirtyLists.{IsDirtyList, area_of}
-use Rattle.mls_session.specs.Inner.{Counts, IsCounted, Journal, after_command, most_checks}
-use Rattle.mls_session.specs.Journals.{is_memory, is_refusal}
-use Rattle.mls_session.specs.Own.{Config, Designed}
-use Rattle.mls_session.specs.OwnSteps.{DesignRunsOut, DesignSteps, checked_times}
-use Rattle.mls_session.specs.declared.command.Command.{Command}
+use Rattle.std.proofs.Common.{◌≡◌, inl, inr, ◌+◌, ◌^◌, ◌<◌, ◌≤◌, ℕ, Bool, true, false, Some, sym, refl, ap, ◌∙◌, subst, arith, true≢false}
+use Rattle.std.proofs.lemmas.Bool.{cond-false, cond-true}
+use Rattle.mls_session.proofs.Words.{Command, Config, Counts, DesignRunsOut, DesignSteps, Designed, Executed, IsCounted, IsDirtyList, Journal, Reply, after_command, area_of, checked_times, is_memory, is_refusal, most_checks}
 use Rattle.mls_session.specs.declared.command.Command.TheVariants.{CatchUp, What, Why}
-use Rattle.mls_session.specs.declared.executed.Executed.{Executed}
-use Rattle.mls_session.specs.declared.reply.Reply.{Reply}
 use Rattle.mls_session.proofs.CaughtUpDesigns.{checked_times-fewer}
 use Rattle.mls_session.proofs.CountedSteps.{IsCounted-none, fits_of}
 use Rattle.mls_session.proofs.OwnReplies.{design_step-not_memory}

@@ -1,22 +1,12 @@
 -- The check steps that are counted: there are never more than squares that awaited checking.
-use Rattle.std.proofs.Common.{◌≡◌, ◌≢◌, ℕ, zero, suc, ◌+◌, ◌^◌, ◌≤◌, ◌<◌, Some, List, [], ◌∷◌, sym, subst, arith}
-use Rattle.mls_checker.specs.Findings.{Finding}
-use Rattle.mls_edgerule.specs.declared.edge_rule.EdgeRule.{EdgeRule}
-use Rattle.mls_errorplane.specs.CatchingUp.{Steps}
-use Rattle.mls_errorplane.specs.Checkings.{Checking}
-use Rattle.mls_errorplane.specs.DirtyLists.{IsDirtyList, area_of, first_piece_of}
-use Rattle.mls_errorplane.specs.ErrorPlanes.{HasStepped}
-use Rattle.mls_errorplane.specs.Outcomes.{HasFinished}
-use Rattle.mls_errorplane.specs.declared.error_plane.Outcome.{Outcome}
+use Rattle.std.proofs.Common.{◌≡◌, ℕ, zero, suc, ◌+◌, ◌^◌, ◌≤◌, ◌<◌, List, sym, subst, arith}
+use Rattle.mls_session.proofs.Words.{Checking, EdgeRule, Finding, HasFinished, HasStepped, IsCounted, IsDirtyList, Layout, Outcome, Rect, Stepped, Steps, area_of, done_steps, finished_steps, most_checks}
 use Rattle.mls_errorplane.specs.declared.error_plane.Outcome.TheVariants as outcome
-use Rattle.mls_errorplane.specs.declared.error_plane.Stepped.{Stepped}
 use Rattle.mls_errorplane.specs.declared.error_plane.Stepped.TheVariants as stepped
 use Rattle.mls_errorplane.proofs.AreaSizes.{area_of-le}
+use Rattle.mls_errorplane.proofs.CheckedMarks.{has_piece}
 use Rattle.mls_errorplane.proofs.KeptLists.{IsDirtyList-dropped}
 use Rattle.mls_errorplane.proofs.StepsDone.{area_of-Done}
-use Rattle.mls_geom.specs.Layouts.{Layout}
-use Rattle.mls_geom.specs.Rects.{Rect}
-use Rattle.mls_session.specs.Inner.{IsCounted, done_steps, finished_steps, most_checks}
 
 -- none so far
 pub IsCounted-none : (dirty : List Rect) → IsDirtyList dirty → IsCounted dirty 0
@@ -61,15 +51,11 @@ IsCounted-Steps rules layout limit count (suc more) old new counted (mid, steps,
     (IsCounted-Done rules layout limit (count + more) mid new (IsCounted-Steps rules layout limit count more old mid counted steps) last)
 
 -- a fresh finding is of the first area
-fresh_some : (areas : List Rect) (piece : Rect) → first_piece_of areas ≡ Some piece → areas ≢ []
-fresh_some [] piece is = absurd cc
-fresh_some (first ∷ rest) piece is = λ none. absurd cc
-
 -- so finishing it is a step that is done
 pub HasStepped-Finished :
     (rules : List EdgeRule) (planes : ℕ) (layout : Layout) (limit : ℕ) (old new : Checking) (finding : Finding)
     → HasFinished rules planes layout limit old finding outcome.Finished new → HasStepped rules layout limit old stepped.Done new
-HasStepped-Finished rules planes layout limit old new finding (fresh, fits, is) = (fresh_some old.dirty finding.piece fresh.piece, fits, is)
+HasStepped-Finished rules planes layout limit old new finding (fresh, fits, is) = (has_piece old.dirty finding.piece fresh.piece, fits, is)
 
 pub IsCounted-finished :
     (rules : List EdgeRule) (planes : ℕ) (layout : Layout) (limit count : ℕ) (old new : Checking) (finding : Finding) (ended : Outcome)

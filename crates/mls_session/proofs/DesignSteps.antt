@@ -1,21 +1,8 @@
 -- Catching up is the step of a design's own machine, unless memory runs out.
-use Rattle.std.proofs.Common.{◌≡◌, ◌==◌, inl, inr, ℕ, true, Some, List, length, sym, ap, ◌∙◌, subst}
-use Rattle.std.proofs.lemmas.Bool.{cond-false, cond-true, true≢false}
-use Rattle.mls_errorplane.specs.CatchingUp.{HasCaughtUp, Steps}
-use Rattle.mls_errorplane.specs.Checkings.{check_step}
-use Rattle.mls_errorplane.specs.DirtyLists.{IsDirtyList}
-use Rattle.mls_errorplane.specs.ErrorPlanes.{exceeds}
-use Rattle.mls_errorplane.specs.declared.catching_up.CaughtUp.{CaughtUp}
+use Rattle.std.proofs.Common.{◌≡◌, ◌==◌, inl, inr, ℕ, true, Some, List, length, sym, ap, ◌∙◌, subst, true≢false}
+use Rattle.std.proofs.lemmas.Bool.{cond-false, cond-true}
+use Rattle.mls_session.proofs.Words.{CatchUp, CaughtUp, Config, Counts, DesignSteps, Designed, Drawn, Executed, HasCaughtUp, IsDirtyList, Quota, Rect, Reply, Steps, catch_up_step, caught_up_reply, check_step, checked_times, design_step, ending, exceeds, is_memory, is_refusal, layout_of, steps_of}
 use Rattle.mls_errorplane.specs.declared.catching_up.CaughtUp.TheVariants.{Done as AllChecked, Full as MarksFull, Memory as OutOfMemory}
-use Rattle.mls_geom.specs.Rects.{Rect}
-use Rattle.mls_session.specs.Inner.{Counts, caught_up_reply, steps_of}
-use Rattle.mls_session.specs.Journals.{is_memory, is_refusal}
-use Rattle.mls_session.specs.Own.{Config, Designed, Drawn, layout_of}
-use Rattle.mls_session.specs.OwnSteps.{DesignSteps, catch_up_step, checked_times, design_step, ending}
-use Rattle.mls_session.specs.declared.command.Command.TheVariants.{CatchUp}
-use Rattle.mls_session.specs.declared.executed.Executed.{Executed}
-use Rattle.mls_session.specs.declared.refusal.Refusal.TheVariants.{Quota}
-use Rattle.mls_session.specs.declared.reply.Reply.{Reply}
 use Rattle.mls_session.specs.declared.reply.Reply.TheVariants.{Done, Stopped}
 use Rattle.mls_session.proofs.CaughtUpDesigns.{catch_up_step-ends}
 use Rattle.mls_session.proofs.CheckedDesigns.{checked-full, checked-none, checked_times-Steps, some_left}

@@ -1,20 +1,12 @@
 -- The cell of a number, and the step of a dump.
-use Rattle.std.proofs.Common.{◌≡◌, Bool, true, false, ℕ, ℤ, Option, Some, None, List, All, length, get_or, slice_get, refl, sym, ap, ◌∙◌, subst}
+use Rattle.std.proofs.Common.{◌≡◌, Bool, true, false, ℕ, ℤ, Option, Some, None, List, All, length, get_or, slice_get, refl, sym, ap, ◌∙◌, subst, option_map}
 use Rattle.std.specs.List.{list_any, range_with_len}
-use Rattle.std.specs.Option.{option_map}
 use Rattle.std.proofs.lemmas.Bool.{both_ways, false_from_ne_true}
 use Rattle.std.proofs.lemmas.List.{get_or_default}
 use Rattle.std.proofs.lemmas.Option.{get_or_from_slice_get, slice_get-map, slice_get_within}
-use Rattle.mls_geom.specs.Layouts.{Layout}
-use Rattle.mls_tilepool.specs.Pools.{Pool}
-use Rattle.mls_layout.specs.Uses.{cell_layouts}
-use Rattle.mls_library.specs.Libraries.{Library, NamedCell, cell_layout}
-use Rattle.mls_paint.specs.Planes.{layout_in, picture_in}
+use Rattle.mls_session.proofs.Words.{CellOutside, Config, Drawn, Layout, Library, NamedCell, Pool, cell_at, cell_layout, cell_layouts, change_step, dump_step, dumped_layout, layout_in, layout_leaves_world, leaves_world, picture_in}
 use Rattle.mls_paint.proofs.OwnerFrames.{layout_in-at}
-use Rattle.mls_session.specs.Changes.{layout_leaves_world, leaves_world}
-use Rattle.mls_session.specs.Own.{Config, Drawn, cell_at, change_step, dump_step, dumped_layout}
 use Rattle.mls_session.specs.declared.reply.Reply.TheVariants.{Refused}
-use Rattle.mls_session.specs.declared.refusal.Refusal.TheVariants.{CellOutside}
 use Rattle.mls_library.proofs.FirstPlanes.{any_at}
 
 -- the cell of this number has these planes

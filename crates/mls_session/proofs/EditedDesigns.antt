@@ -1,19 +1,7 @@
 -- What an edit of a design's layout leads to, once what it changed awaits checking.
 use Rattle.std.proofs.Common.{◌≡◌, ℕ, ◌<◌, Bool, true, not, List, Option, Some, sym, ap, ◌∙◌}
-use Rattle.mls_geom.specs.Layouts.{Layout}
-use Rattle.mls_geom.specs.Pictures.{overlaid}
-use Rattle.mls_geom.specs.Rects.{Rect}
-use Rattle.mls_geom.specs.TileCounts.{tile_count}
-use Rattle.mls_geom.specs.World.{world}
-use Rattle.mls_geom.specs.declared.piece.Piece.{Piece}
-use Rattle.mls_tilepool.specs.Pools.{Pool}
-use Rattle.mls_stitch.specs.Tilings.{ChangesOnly}
-use Rattle.mls_paint.specs.Owners.{ChangesAmong}
-use Rattle.mls_paint.specs.Planes.{layout_in, picture_in}
+use Rattle.mls_session.proofs.Words.{CellUse, ChangesAmong, ChangesOnly, Config, Layout, Piece, Pool, Rect, change_step, checking_of, dirty_after, edit_step, exceeds_quota, layout_in, overlaid, paint_step, picture_in, tile_count, world}
 use Rattle.mls_paint.proofs.OwnerFrames.{ChangesAmong-ChangesOnly}
-use Rattle.mls_errorplane.specs.ErrorPlanes.{checking_of}
-use Rattle.mls_layout.specs.declared.uses.CellUse.{CellUse}
-use Rattle.mls_session.specs.Own.{Config, change_step, edit_step, exceeds_quota, paint_step, dirty_after}
 use Rattle.mls_session.specs.Designs.{Design, IsHome, designed_of, drawn_of}
 use Rattle.mls_session.specs.declared.reply.Reply.TheVariants.{Done}
 use Rattle.mls_session.proofs.ChangedQuotas.{change_step-Done}

@@ -1,24 +1,14 @@
 -- An edit leaves a layout as it was outside the edit's rectangle, and a cell shows nothing outside the rectangle to which it is moved.
-use Rattle.std.proofs.Common.{◌≡◌, Bool, true, false, ℕ, ℤ, pos, negsuc, ◌-◌, ◌<◌, ◌≤◌, ◌+ℤ◌, ◌-ℤ◌, ◌==◌, ◌&&◌, not, if◌then◌else◌, Option, Some, None, Contains, inl, inr, refl, sym, ap, subst, ◌∙◌, eqb-true, arith}
+use Rattle.std.proofs.Common.{◌≡◌, Bool, true, false, ℕ, ℤ, pos, negsuc, ◌-◌, ◌<◌, ◌≤◌, ◌+ℤ◌, ◌-ℤ◌, ◌==◌, ◌&&◌, not, if◌then◌else◌, Option, Some, None, Contains, inl, inr, refl, sym, ap, subst, ◌∙◌, eqb-true, arith, option_and_then}
 use Rattle.std.specs.List.{range_with_len}
-use Rattle.std.specs.Option.{option_and_then}
 use Rattle.std.proofs.Math.Path.{fun_ext}
 use Rattle.std.proofs.lemmas.Bool.{and_from, cases_Bool, cases_lt}
 use Rattle.std.proofs.lemmas.Int.{ints}
 use Rattle.std.proofs.lemmas.List.Folds.{Any-from_list_any}
-use Rattle.mls_geom.specs.Layouts.{Layout}
-use Rattle.mls_geom.specs.Pictures.{Picture, empty_picture, painted}
-use Rattle.mls_geom.specs.Rects.{Rect, holds}
-use Rattle.mls_geom.specs.World.{world}
+use Rattle.mls_session.proofs.Words.{AgreeOutside, Layout, Picture, Rect, dumped_layout, dumped_rect, empty_picture, erased_layout, has_paint, holds, kind_or_space, layout_leaves_world, leaves_world, moved_picture, moved_rect, painted, painted_bounds, with_plane, world, world_has}
 use Rattle.mls_geom.proofs.Holds.{holds_between}
 use Rattle.mls_geom.proofs.Squares.{range_with_len-Contains}
 use Rattle.mls_kinds.specs.KindSets.{has_bit as has_type}
-use Rattle.mls_checker.specs.ZoneLayouts.{AgreeOutside}
-use Rattle.mls_library.specs.Bounds.{has_paint, painted_bounds}
-use Rattle.mls_session.specs.Bounds.{dumped_rect, moved_rect}
-use Rattle.mls_layout.specs.Moves.{kind_or_space, moved_picture}
-use Rattle.mls_session.specs.Changes.{world_has, layout_leaves_world, leaves_world}
-use Rattle.mls_session.specs.Own.{dumped_layout, erased_layout, with_plane}
 use Rattle.mls_library.proofs.FirstPlanes.{any_at}
 use Rattle.mls_session.proofs.MovedRects.{IsMoved, IsMoved-moved_rect, world_has-to, holds-IsMoved, holds_at, lines_moved, moved_rect-is, none_of, not_beyond}
 use Rattle.mls_session.proofs.MovedTiles.{leaves_world-at}

@@ -7,15 +7,8 @@ use Rattle.std.proofs.lemmas.Bool.Decides.{same_from_decides}
 use Rattle.std.proofs.lemmas.List.Elements.{All-contains}
 use Rattle.std.proofs.lemmas.List.Folds.{Any-from_list_any, list_any-from_Any}
 use Rattle.mls_kinds.specs.KindSets.{has_bit as has_type}
-use Rattle.mls_geom.specs.Pictures.{empty_picture, overlaid}
-use Rattle.mls_geom.specs.Rects.{Rect, clipped, common, holds}
-use Rattle.mls_geom.specs.declared.piece.Piece.{Piece}
-use Rattle.mls_tilepool.specs.declared.tile.Tile.{Tile}
-use Rattle.mls_stitch.specs.Areas.{AreInArea, IsFound}
-use Rattle.mls_stitch.specs.Tilings.{IsPlane, block_at, shown}
-use Rattle.mls_stitch.specs.declared.laid_tile.LaidTile.{LaidTile}
+use Rattle.mls_session.proofs.Words.{AreInArea, IsFound, IsPlane, LaidTile, Piece, Rect, Tile, block_at, clipped, common, empty_picture, erased, holds, overlaid, shown}
 use Rattle.mls_stitch.proofs.ShownTiles.{KeysDiffer, shown-inside}
-use Rattle.mls_session.specs.Changes.{erased}
 use Rattle.mls_session.proofs.TilePieces.{ArePatches, is_covered}
 
 -- the square is the tile's, in the rectangle, and of these types

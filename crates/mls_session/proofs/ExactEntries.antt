@@ -1,17 +1,11 @@
 -- Whether two entries are equal: the test says true exactly where they are the same.
-use Rattle.std.proofs.Common.{◌≡◌, ◌&&◌, ℕ, ℤ, true, refl, ap, ◌∙◌, rules, tests}
-use Rattle.std.specs.Ordering.{int_eq}
+use Rattle.std.proofs.Common.{◌≡◌, ◌&&◌, ℕ, ℤ, true, refl, ap, ◌∙◌, rules, tests, int_eq, Decides}
 use Rattle.std.proofs.lemmas.Bool.Decides.{Decides-and, Decides-eqb, Decides-int_eq, Decides-like}
-use Rattle.std.specs.Bool.{Decides}
 use Rattle.mls_session.specs.contracts.command.CommandPartialEq.TheImpl as command_test
 use Rattle.mls_session.specs.contracts.journal.EntryPartialEq.TheImpl as entry_test
 use Rattle.mls_session.specs.contracts.journal.SaidPartialEq.TheImpl as said_test
 use Rattle.mls_session.specs.contracts.reply.ReplyPartialEq.TheImpl as reply_test
-use Rattle.mls_session.specs.declared.command.Command.{Command}
-use Rattle.mls_session.specs.declared.command.Command.TheVariants.{Box, Paint, Erase, Dump, GetCell, What, Save, Check, CatchUp, Why, Count}
-use Rattle.mls_session.specs.declared.journal.Entry.{Entry}
-use Rattle.mls_session.specs.declared.journal.Said.{Said}
-use Rattle.mls_session.specs.declared.reply.Reply.{Reply}
+use Rattle.mls_session.proofs.Words.{Box, Command, Entry, Reply, Said}
 
 -- ---- replies
 pub reply_exact : (a b : Reply) → Decides ((reply_test.ghosts).eq a b) (a ≡ b)
@@ -28,16 +22,7 @@ box_exact left bottom right top left' bottom' right' top' =
 pub command_exact : (a b : Command) → Decides ((command_test.ghosts).eq a b) (a ≡ b)
 command_exact (Box left bottom right top) (Box left' bottom' right' top') = box_exact left bottom right top left' bottom' right' top'
 command_exact (Box left bottom right top) b = (λ is. absurd cc, λ is. absurd cc)
-command_exact (Paint kind) b = search (rules, tests)
-command_exact (Erase kinds) b = search (rules, tests)
-command_exact (Dump cell dx dy) b = search (rules, tests)
-command_exact (GetCell cell dx dy) b = search (rules, tests)
-command_exact What b = search (rules, tests)
-command_exact Save b = search (rules, tests)
-command_exact Check b = search (rules, tests)
-command_exact CatchUp b = search (rules, tests)
-command_exact Why b = search (rules, tests)
-command_exact Count b = search (rules, tests)
+command_exact a b = search (rules, tests)
 
 -- ---- entries
 pub said_exact : (a b : Said) → Decides ((said_test.ghosts).eq a b) (a ≡ b)

@@ -1,22 +1,10 @@
 -- A design's layout is what its planes show with the uses of its cells, and these lie in the pool beside them.
 use Rattle.std.proofs.Common.{◌≡◌, ◌≢◌, ℕ, ◌<◌, ◌≤◌, List, [], ◌∷◌, length, get_or, All, Contains, sym, ap, ◌∙◌, subst, arith}
 use Rattle.std.proofs.lemmas.List.Elements.{Contains-append_right}
-use Rattle.mls_geom.specs.Pictures.{Picture}
-use Rattle.mls_layout.specs.Uses.{HasFlatPlane, HasLayout, HasPlanes, cell_layouts, flat_layout, flat_plane, flattened, over, uses_layout}
-use Rattle.mls_layout.specs.declared.uses.CellUse.{CellUse}
-use Rattle.mls_layout.specs.declared.uses.Uses.{Uses}
-use Rattle.mls_layout.specs.Workspaces.{FitsWorkspace}
+use Rattle.mls_session.proofs.Words.{CellUse, FitsWorkspace, HasFlatPlane, HasLayout, HasPlane, HasPlanes, Picture, Pool, Setup, StandsApart, Uses, cell_layouts, config_of, flat_layout, flat_plane, flattened, layout_in, layout_of, most_quota, over, uses_layout}
 use Rattle.mls_library.specs.Libraries.{IsHome as AreCellsHome, Library}
-use Rattle.mls_paint.specs.Planes.{layout_in}
 use Rattle.mls_paint.proofs.OwnerFrames.{layout_in-at}
-use Rattle.mls_stitch.specs.Tilings.{HasPlane}
-use Rattle.mls_tilepool.specs.Pools.{Pool}
-use Rattle.mls_errorplane.specs.ErrorPlanes.{StandsApart}
 use Rattle.mls_session.specs.Designs.{CanDump, Design, HasErrorPlane, IsHome, IsMadeFor, drawn_of, owners_of}
-use Rattle.mls_session.specs.Own.{layout_of}
-use Rattle.mls_session.specs.Quotas.{most_quota}
-use Rattle.mls_session.specs.Setups.{config_of}
-use Rattle.mls_session.specs.declared.setup.Setup.{Setup}
 use Rattle.mls_session.proofs.ErrorPlanes.{FitsWorkspace-home, HasPlane-home}
 
 -- ---- what it shows

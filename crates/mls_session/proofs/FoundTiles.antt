@@ -1,14 +1,9 @@
 -- How many tiles there are.
 use Rattle.std.proofs.Common.{◌≡◌, ℕ, List, length, map, sym, ◌∙◌}
 use Rattle.std.proofs.lemmas.List.{length-map}
-use Rattle.mls_geom.specs.TileCounts.{tile_count}
-use Rattle.mls_geom.specs.World.{world}
-use Rattle.mls_geom.specs.Strips.{AreStrips}
+use Rattle.mls_session.specs.Words.{AreStrips, LaidTile, Pool, picture_in, tile_count, world}
 use Rattle.mls_geom.proofs.StripPictures.{AreUnorderedStrips-ordered}
 use Rattle.mls_geom.proofs.UnorderedStrips.{unordered_strips_number}
-use Rattle.mls_tilepool.specs.Pools.{Pool}
-use Rattle.mls_stitch.specs.declared.laid_tile.LaidTile.{LaidTile}
-use Rattle.mls_paint.specs.Planes.{picture_in}
 
 -- the strips of a plane are as many as its tiles are counted
 pub length-strips :

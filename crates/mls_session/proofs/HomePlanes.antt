@@ -4,13 +4,8 @@ use Rattle.std.proofs.lemmas.Bool.{cases_lt}
 use Rattle.std.proofs.lemmas.List.{set-get_or}
 use Rattle.std.proofs.lemmas.List.Elements.{All-push}
 use Rattle.std.proofs.lemmas.List.Quantifiers.{all_pairs_push}
-use Rattle.mls_tilepool.specs.Pools.{Pool, room_of}
-use Rattle.mls_stitch.specs.Tilings.{ChangesOnly}
-use Rattle.mls_library.specs.Libraries.{most_tiles}
-use Rattle.mls_paint.specs.Planes.{AddsOwner, HasStrips}
+use Rattle.mls_session.proofs.Words.{AddsOwner, AreAtHome, ChangesOnly, Design, HasStrips, Pool, most_tiles, plane_reserve, room_of}
 use Rattle.mls_paint.proofs.OwnerFrames.{HasStrips-AddsOwner, HasStrips-ChangesOnly, apart_from_added, has_room-HasStrips}
-use Rattle.mls_session.specs.Designs.{AreAtHome, Design}
-use Rattle.mls_session.specs.Quotas.{plane_reserve}
 
 -- a plane that was lent to a call comes back
 pub planes_kept : (planes : List ℕ) (i before after : ℕ) → before ≡ get_or planes i before → after ≡ before → set planes i after ≡ planes

@@ -1,13 +1,8 @@
 -- No run of commands and check steps makes a journal longer than its limit.
-use Rattle.std.proofs.Common.{◌≡◌, inl, inr, ℕ, ◌+◌, ◌≤◌, Option, Some, None, List, [], ◌∷◌, refl, ap, subst, arith}
-use Rattle.std.specs.Option.{option_and_then}
+use Rattle.std.proofs.Common.{◌≡◌, inl, inr, ℕ, ◌+◌, ◌≤◌, Option, Some, None, List, [], ◌∷◌, refl, ap, subst, arith, option_and_then}
 use Rattle.std.proofs.lemmas.Bool.{cases_eq}
 use Rattle.std.proofs.lemmas.Option.{same_Some}
-use Rattle.mls_session.specs.Journals.{IsLegal, Kept, Run, run_from, said_next}
-use Rattle.mls_session.specs.OwnSteps.{OwnState, Terms, beginning, checks, own_step}
-use Rattle.mls_session.specs.declared.command.Command.{Command}
-use Rattle.mls_session.specs.declared.journal.Entry.{Entry}
-use Rattle.mls_session.specs.declared.reply.Reply.{Reply}
+use Rattle.mls_session.proofs.Words.{Command, Entry, IsLegal, Kept, OwnState, Reply, Run, Terms, beginning, checks, own_step, run_from, said_next}
 use Rattle.mls_session.proofs.JournalRuns.{Leads-from, checks-entries}
 use Rattle.mls_session.proofs.OwnReplies.{own_step-full, own_step-room}
 

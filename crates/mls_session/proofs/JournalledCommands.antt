@@ -1,22 +1,9 @@
 -- What a session keeps after a command of its design.
 use Rattle.std.proofs.Common.{◌≡◌, ◌≢◌, inl, inr, ◌+◌, ◌++◌, ◌∷◌, [], ℕ, Bool, true, false, cond, Some, List, length, length-append, refl, sym, ap, ◌∙◌, subst, arith}
 use Rattle.std.proofs.lemmas.Bool.{cond-false, cond-true}
-use Rattle.mls_tilepool.specs.Pools.{Pool}
-use Rattle.mls_session.specs.Designs.{Design, designed_of}
-use Rattle.mls_session.specs.Inner.{Counts, Journal, after_command, after_note, after_steps}
-use Rattle.mls_session.specs.Journals.{Commands, Does, Kept, RunsOut, is_journalled, is_memory, is_refusal, noted, said_of}
-use Rattle.mls_session.specs.Own.{Designed}
-use Rattle.mls_session.specs.OwnSteps.{DesignRunsOut, DesignSteps, OwnState, Terms, checks, design_step, own_step}
-use Rattle.mls_session.specs.Sessions.{Session, kept_of}
-use Rattle.mls_session.specs.Setups.{config_of, terms_of}
-use Rattle.mls_session.specs.declared.command.Command.{Command}
+use Rattle.mls_session.proofs.Words.{Command, Commands, Counts, Design, DesignRunsOut, DesignSteps, Designed, Does, Entry, Executed, Journal, JournalFull, Kept, OwnState, Pool, Reply, RunsOut, Session, Setup, Terms, after_command, after_note, after_steps, checks, config_of, design_step, designed_of, is_journalled, is_memory, is_refusal, kept_of, noted, own_step, said_of, terms_of}
 use Rattle.mls_session.specs.declared.command.Command.TheVariants.{CatchUp, What, Why}
-use Rattle.mls_session.specs.declared.executed.Executed.{Executed}
-use Rattle.mls_session.specs.declared.journal.Entry.{Entry}
-use Rattle.mls_session.specs.declared.refusal.Refusal.TheVariants.{JournalFull}
-use Rattle.mls_session.specs.declared.reply.Reply.{Reply}
 use Rattle.mls_session.specs.declared.reply.Reply.TheVariants.{Refused}
-use Rattle.mls_session.specs.declared.setup.Setup.{Setup}
 use Rattle.mls_session.proofs.CheckedDesigns.{checks-Some}
 use Rattle.mls_session.proofs.OwnReplies.{design_step-is_journalled, design_step-not_memory, own_step-full, own_step-room}
 

@@ -1,24 +1,8 @@
 -- What a session keeps after the text of its layout was saved.
-use Rattle.std.proofs.Common.{◌≡◌, ◌≢◌, inl, inr, ◌+◌, ◌++◌, [], ℕ, List, length, refl, sym, ap, ◌∙◌, subst, arith}
-use Rattle.std.proofs.lemmas.List.{append-nil}
-use Rattle.mls_library.specs.SavedCells.{saved_text}
-use Rattle.mls_tilepool.specs.Pools.{Pool}
-use Rattle.mls_paint.specs.Planes.{layout_in}
-use Rattle.mls_session.specs.Designs.{Design, designed_of}
-use Rattle.mls_session.specs.Inner.{Journal, after_command}
-use Rattle.mls_session.specs.Journals.{Kept, Saves, is_memory}
-use Rattle.mls_session.specs.Own.{Designed, save_step}
-use Rattle.mls_session.specs.OwnSteps.{Terms, design_step}
-use Rattle.mls_session.specs.Saving.{SavesText}
-use Rattle.mls_session.specs.Sessions.{Session, kept_of}
-use Rattle.mls_session.specs.Setups.{terms_of}
+use Rattle.std.proofs.Common.{◌≡◌, ◌≢◌, inl, inr, ◌+◌, ◌++◌, [], ℕ, List, length, refl, sym, ap, ◌∙◌, subst, arith, append-nil}
+use Rattle.mls_session.proofs.Words.{Design, Designed, Executed, Journal, JournalFull, Kept, Pool, Refusal, Reply, Saves, SavesText, Session, Setup, Terms, after_command, design_step, designed_of, is_memory, kept_of, layout_in, save_step, saved_text, terms_of}
 use Rattle.mls_session.specs.declared.command.Command.TheVariants.{Save}
-use Rattle.mls_session.specs.declared.executed.Executed.{Executed}
-use Rattle.mls_session.specs.declared.refusal.Refusal.{Refusal}
-use Rattle.mls_session.specs.declared.refusal.Refusal.TheVariants.{JournalFull}
-use Rattle.mls_session.specs.declared.reply.Reply.{Reply}
-use Rattle.mls_session.specs.declared.reply.Reply.TheVariants.{Done, Kinds, Saved, Count as Counted, Why as WhyRules, Refused, Stopped}
-use Rattle.mls_session.specs.declared.setup.Setup.{Setup}
+use Rattle.mls_session.specs.declared.reply.Reply.TheVariants.{Saved, Refused}
 use Rattle.mls_session.proofs.JournalledCommands.{Does-executed, Does-full, counted, entries-room, kept_with, seen}
 
 -- the text that was appended, and what is kept
@@ -56,11 +40,7 @@ module _ (terms : Terms) (own : Designed) (journal : Journal) (steps : ℕ) (out
       → SavesMore terms (kept_with own journal) reply out longer (kept_with own (after_command journal Save (record { reply = reply; steps = steps })))
   saves (Saved lines) text = saved lines text
   saves (Refused refusal) text = refused refusal text
-  saves Done text = absurd text
-  saves (Kinds kinds) text = absurd text
-  saves (Counted errors pending) text = absurd text
-  saves (WhyRules rules) text = absurd text
-  saves (Stopped refusal pending) text = absurd text
+  saves reply text = absurd text
 
 -- where the journal has room
 pub Saves-saved :

@@ -1,25 +1,9 @@
 -- What a session keeps after a check step of its design.
-use Rattle.std.proofs.Common.{◌≡◌, ℕ, ◌+◌, true, Some, None, length, refl, sym, ap, ◌∙◌, subst, arith}
-use Rattle.std.specs.Option.{option_map}
-use Rattle.mls_checker.specs.Findings.{Finding}
-use Rattle.mls_errorplane.specs.CatchingUp.{Steps}
-use Rattle.mls_errorplane.specs.Checkings.{Checking, IsChecked, check_step}
-use Rattle.mls_errorplane.specs.ErrorPlanes.{HasStepped, checking_of, exceeds}
-use Rattle.mls_errorplane.specs.Outcomes.{HasFinished}
-use Rattle.mls_errorplane.specs.declared.error_plane.Outcome.{Outcome}
+use Rattle.std.proofs.Common.{◌≡◌, ℕ, ◌+◌, true, Some, None, length, refl, sym, ap, ◌∙◌, subst, arith, option_map}
+use Rattle.mls_session.proofs.Words.{Checking, ChecksOnce, ChecksTimes, Design, Designed, Drawn, Finding, Finishes, HasFinished, HasRightMarks, HasStepped, IsChecked, Journal, Kept, Layout, Outcome, Pool, Setup, Stepped, Steps, StepsOnce, Terms, after_steps, check_step, checked, checked_times, checking_of, config_of, designed_of, done_steps, drawn_of, exceeds, finished_steps, layout_of, own_check, terms_of}
 use Rattle.mls_errorplane.specs.declared.error_plane.Outcome.TheVariants as outcome
-use Rattle.mls_errorplane.specs.declared.error_plane.Stepped.{Stepped}
 use Rattle.mls_errorplane.specs.declared.error_plane.Stepped.TheVariants as stepped
-use Rattle.mls_geom.specs.Layouts.{Layout}
-use Rattle.mls_tilepool.specs.Pools.{Pool}
-use Rattle.mls_session.specs.Designs.{Design, HasRightMarks, designed_of, drawn_of}
-use Rattle.mls_session.specs.Inner.{Journal, after_steps, done_steps, finished_steps}
-use Rattle.mls_session.specs.Journals.{ChecksOnce, ChecksTimes, Finishes, Kept, StepsOnce}
-use Rattle.mls_session.specs.Own.{Designed, Drawn, layout_of}
-use Rattle.mls_session.specs.OwnSteps.{Terms, checked, checked_times, own_check}
 use Rattle.mls_session.specs.Sessions.{IsMadeFor, Session, kept_of, state_of}
-use Rattle.mls_session.specs.Setups.{config_of, terms_of}
-use Rattle.mls_session.specs.declared.setup.Setup.{Setup}
 use Rattle.mls_session.proofs.CheckedDesigns.{checked-done, checked-full, checked_times-Steps, checks-Some}
 use Rattle.mls_session.proofs.CountedSteps.{HasStepped-Finished}
 use Rattle.mls_session.proofs.JournalledCommands.{kept_with, seen}

@@ -1,15 +1,9 @@
 -- What a call that keeps a session's planes leaves for the next one: what it asks for, and what the setup says of the pool.
 use Rattle.std.proofs.Common.{◌≡◌, ◌++◌, ℕ, List, [], ◌∷◌, length, refl, sym, ap, ◌∙◌, subst}
-use Rattle.mls_geom.specs.Layouts.{Layout}
-use Rattle.mls_paint.specs.Owners.{ChangesAmong}
+use Rattle.mls_session.proofs.Words.{CanDump, ChangesAmong, Layout, Pool, Setup, Terms, terms_of}
 use Rattle.mls_paint.proofs.OwnerFrames.{ChangesAmong-refl, ChangesAmong-trans}
-use Rattle.mls_session.specs.Designs.{CanDump}
-use Rattle.mls_session.specs.OwnSteps.{Terms}
 use Rattle.mls_session.specs.Sessions.{IsHome, IsMadeFor, IsReady, KeepsPlanes, Session, StaysSound, owners_of}
-use Rattle.mls_session.specs.Setups.{terms_of}
-use Rattle.mls_session.specs.declared.setup.Setup.{Setup}
 use Rattle.mls_session.proofs.CellFrames.{home-ChangesAmong, layouts-ChangesAmong, own_types-ChangesAmong}
-use Rattle.mls_tilepool.specs.Pools.{Pool}
 
 -- no call keeps them
 pub KeepsPlanes-refl : (pool : Pool) (session : Session) → IsHome pool session → KeepsPlanes pool pool session session

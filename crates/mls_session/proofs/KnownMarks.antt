@@ -1,17 +1,7 @@
 -- Commands that leave the layout and the marks leave marks right where they are known to be so.
 use Rattle.std.proofs.Common.{◌≡◌, ◌==◌, Bool, true, false, Option, Some, None, Result, Ok, Err, inl, inr, cond, refl, sym, ap, subst, ◌∙◌}
-use Rattle.mls_errorplane.specs.declared.checked.Checked.{Checked}
-use Rattle.mls_geom.specs.Rects.{Rect}
-use Rattle.mls_geom.specs.World.{rect_of}
-use Rattle.mls_geom.specs.declared.rect.RectFault.{RectFault}
-use Rattle.mls_geom.specs.declared.rect.RectFault.TheVariants.{Empty, Outside}
-use Rattle.mls_session.specs.Designs.{KnowsRight, known_after, leaves_marks}
-use Rattle.mls_session.specs.Journals.{Commands, Does, Kept, RunsOut, is_journalled, noted}
-use Rattle.mls_session.specs.Own.{Config, Designed, box_step, check_in, edit_step, what_step, why_step}
-use Rattle.mls_session.specs.OwnSteps.{OwnState, Terms, design_step, own_step}
-use Rattle.mls_session.specs.declared.command.Command.{Command}
+use Rattle.mls_session.proofs.Words.{Checked, Command, Commands, Config, Designed, Does, Empty, Kept, KnowsRight, Outside, OwnState, Rect, RectFault, Reply, RunsOut, Terms, box_step, check_in, design_step, edit_step, is_journalled, known_after, leaves_marks, noted, own_step, rect_of, what_step, why_step}
 use Rattle.mls_session.specs.declared.command.Command.TheVariants.{Box, What, Save, Check, CatchUp, Why, Count}
-use Rattle.mls_session.specs.declared.reply.Reply.{Reply}
 
 module _ (config : Config) (own : Designed) (checked : Option Checked) (right : KnowsRight config own checked) where
   after_box : (rect : Result Rect RectFault) → KnowsRight config (edit_step config own None (box_step own.drawn rect)).0 checked

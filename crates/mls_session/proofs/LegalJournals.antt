@@ -1,21 +1,12 @@
 -- Whatever a session does keeps its journal legal, and as long as its own state says.
-use Rattle.std.proofs.Common.{◌≡◌, ◌≢◌, ◌+◌, ◌++◌, ◌⊎◌, inl, inr, ℕ, true, Some, List, [], ◌∷◌, length, length-append, map, refl, sym, ap, ◌∙◌, subst, arith}
-use Rattle.std.specs.Option.{option_and_then}
+use Rattle.std.proofs.Common.{◌≡◌, ◌≢◌, ◌+◌, ◌++◌, ◌⊎◌, inl, inr, ℕ, true, Some, List, [], ◌∷◌, length, length-append, map, refl, sym, ap, ◌∙◌, subst, arith, option_and_then}
 use Rattle.std.proofs.lemmas.Bool.{cases_eq, cond-true}
 use Rattle.std.proofs.lemmas.List.{map-append}
 use Rattle.std.proofs.lemmas.List.Elements.{All-append, All-cons, All-nil}
-use Rattle.mls_checker.specs.Findings.{Finding}
-use Rattle.mls_errorplane.specs.declared.error_plane.Outcome.{Outcome}
+use Rattle.mls_session.proofs.Words.{ChecksOnce, Command, Commands, Does, Entry, Finding, Finishes, IsLegal, JournalFull, Kept, Outcome, OwnState, Reply, RunsOut, Saves, Stepped, StepsOnce, Terms, checks, is_journalled, kept_at_opening, noted, own_step, said_of}
 use Rattle.mls_errorplane.specs.declared.error_plane.Outcome.TheVariants as outcome
-use Rattle.mls_errorplane.specs.declared.error_plane.Stepped.{Stepped}
 use Rattle.mls_errorplane.specs.declared.error_plane.Stepped.TheVariants as stepped
-use Rattle.mls_session.specs.Journals.{ChecksOnce, Commands, Does, Finishes, IsLegal, Kept, RunsOut, Saves, StepsOnce, is_journalled, kept_at_opening, noted, said_of}
-use Rattle.mls_session.specs.OwnSteps.{OwnState, Terms, checks, own_step}
-use Rattle.mls_session.specs.declared.command.Command.{Command}
 use Rattle.mls_session.specs.declared.command.Command.TheVariants.{What, Save, CatchUp, Why}
-use Rattle.mls_session.specs.declared.journal.Entry.{Entry}
-use Rattle.mls_session.specs.declared.refusal.Refusal.TheVariants.{JournalFull}
-use Rattle.mls_session.specs.declared.reply.Reply.{Reply}
 use Rattle.mls_session.specs.declared.reply.Reply.TheVariants.{Refused}
 use Rattle.mls_session.proofs.JournalRuns.{Leads, Leads-checks, Leads-from, Leads-gives, Leads-said, checks-entries}
 use Rattle.mls_session.proofs.OwnReplies.{own_step-full, own_step-is_journalled, own_step-room}

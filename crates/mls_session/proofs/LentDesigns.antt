@@ -1,21 +1,8 @@
 -- What a design lends to a call of its error plane, its planes and what its layout is checked by, and the design that comes back.
 use Rattle.std.proofs.Common.{◌≡◌, ℕ, ◌≤◌, List, ap, ◌∙◌, subst, arith}
-use Rattle.mls_edgerule.specs.declared.edge_rule.EdgeRule.{EdgeRule}
-use Rattle.mls_geom.specs.Layouts.{Layout}
-use Rattle.mls_tilepool.specs.Pools.{Pool}
-use Rattle.mls_stitch.specs.Tilings.{ChangesOnly}
-use Rattle.mls_layout.specs.Uses.{HasLayout, flat_layout}
-use Rattle.mls_library.specs.Libraries.{Library}
-use Rattle.mls_errorplane.specs.Checkings.{Checking}
-use Rattle.mls_errorplane.specs.ErrorPlanes.{ErrorPlane, ShowsMarks, StandsApart, checking_of}
-use Rattle.mls_errorplane.specs.declared.check_context.CheckContext.{CheckContext}
+use Rattle.mls_session.proofs.Words.{ChangesOnly, CheckContext, Checking, EdgeRule, ErrorPlane, HasLayout, IsQuota, KeepsDrawn, Layout, Library, Pool, Setup, ShowsMarks, StandsApart, checking_of, config_of, flat_layout, layout_of, most_quota}
 use Rattle.mls_session.specs.Designs.{CanDump, Design, IsHome, IsMadeFor, drawn_of, owners_of}
-use Rattle.mls_session.specs.Inner.{KeepsDrawn}
-use Rattle.mls_session.specs.Own.{layout_of}
-use Rattle.mls_session.specs.Quotas.{IsQuota, most_quota}
-use Rattle.mls_session.specs.Setups.{config_of}
 use Rattle.mls_session.specs.declared.design.Design.TheInside.{Inside}
-use Rattle.mls_session.specs.declared.setup.Setup.{Setup}
 use Rattle.mls_session.proofs.ErrorPlanes.{KeepsPlanes-errors, drawn-errors}
 use Rattle.mls_session.proofs.FlatDesigns.{HasLayout-design, StandsApart-design, flat_layout-design}
 

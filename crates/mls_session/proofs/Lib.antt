@@ -11,11 +11,12 @@ pub mod CountedCommands
 pub mod CountedSteps
 pub mod CutAreas
 pub mod DesignSteps
+pub mod DrawnSteps
 pub mod DumpedCells
 pub mod DumpedRects
+pub mod EditedDesigns
 pub mod EditedSquares
 pub mod ErasedTiles
-pub mod EditedDesigns
 pub mod ErrorPlanes
 pub mod ExactEntries
 pub mod FirstPlanes
@@ -54,4 +55,5 @@ pub mod SavedSections
 pub mod SessionLooks
 pub mod StepRuns
 pub mod TilePieces
+pub mod Words
 pub use Rattle.mls_library.proofs as mls_library

@@ -1,26 +1,14 @@
 -- The sections of the types of a layout, a type more at a time, and the strips of its planes, a plane more at a time.
-use Rattle.std.proofs.Common.{◌≡◌, ℕ, ◌+◌, ◌-◌, ◌≤◌, ◌<◌, ◌||◌, nat_lt, true, false, List, [], ◌∷◌, ◌++◌, length, map, get_or, Option, Some, None, refl, sym, ap, ◌∙◌, append_assoc, arith, length-append}
-use Rattle.std.specs.List.{flat_map, range_with_len}
-use Rattle.std.specs.Prelude.{Result, Ok, Err, IfErr}
+use Rattle.std.proofs.Common.{◌≡◌, ℕ, ◌+◌, ◌-◌, ◌≤◌, ◌<◌, ◌||◌, nat_lt, true, false, List, [], ◌∷◌, ◌++◌, length, map, get_or, Option, Some, None, refl, sym, ap, ◌∙◌, append_assoc, arith, length-append, flat_map, Result, Ok, Err, IfErr, map-id, append-nil}
+use Rattle.std.specs.List.{range_with_len}
 use Rattle.std.specs.Result.{IsErrAnd}
 use Rattle.std.specs.Option.{option_map_or}
 use Rattle.std.proofs.lemmas.List.Concat.{flat_map-append}
-use Rattle.std.proofs.lemmas.List.{map-id, append-nil}
 use Rattle.std.proofs.lemmas.List.FromFn.{get_or-map-range_with_len, map-range_with_len_more}
 use Rattle.std.proofs.lemmas.Bool.Decides.{nat_tests}
-use Rattle.mls_geom.specs.Layouts.{Layout}
-use Rattle.mls_geom.specs.Pictures.{Picture}
-use Rattle.mls_geom.specs.TileCounts.{tile_count}
-use Rattle.mls_geom.specs.World.{world}
-use Rattle.mls_geom.specs.declared.piece.Piece.{Piece}
-use Rattle.mls_library.specs.SavedCells.{layer_lines, layers_lines, strips_on, text_of}
+use Rattle.mls_session.proofs.Words.{IfTooMany, Layout, ListsPlanes, Picture, Piece, Tech, Unlisted, exceeds_tiles, layer_lines, layers_lines, plane_of_type, strips_on, text_of, tile_count, world}
 use Rattle.mls_library.proofs.SavedTexts.{text_of-append, text_of-none}
-use Rattle.mls_tech.specs.Readings.{Tech, plane_of_type}
-use Rattle.mls_layout.specs.Strips.{IfTooMany}
-use Rattle.mls_layout.specs.declared.strips.Unlisted.{Unlisted}
 use Rattle.mls_layout.specs.declared.strips.Unlisted.TheVariants.{Memory, TooMany}
-use Rattle.mls_session.specs.Inner.{ListsPlanes}
-use Rattle.mls_session.specs.Own.{exceeds_tiles}
 use Rattle.mls_library.proofs.FirstPlanes.{any_at, any_more}
 use Rattle.mls_session.proofs.SavedCounts.{layer_lines-few, strips_few}
 

@@ -1,19 +1,8 @@
 -- The pieces that a change paints, listed plane by plane.
 use Rattle.std.proofs.Common.{◌≡◌, ◌≢◌, ℕ, ◌+◌, ◌<◌, ◌≤◌, List, length, get_or, inl, inr, sym, ap, subst, ◌∙◌, arith}
 use Rattle.std.proofs.lemmas.Bool.{cases_eq}
-use Rattle.mls_geom.specs.Layouts.{Layout}
-use Rattle.mls_geom.specs.Pictures.{Picture, overlaid}
-use Rattle.mls_geom.specs.TileCounts.{tile_count}
-use Rattle.mls_geom.specs.World.{world}
-use Rattle.mls_geom.specs.declared.piece.Piece.{Piece}
-use Rattle.mls_tilepool.specs.Pools.{Pool}
-use Rattle.mls_paint.specs.Planes.{layout_in, picture_in}
-use Rattle.mls_paint.specs.Plans.{IsPlanFor}
-use Rattle.mls_paint.specs.Scratches.{Scratch, plan_of}
+use Rattle.mls_session.proofs.Words.{ArePlanned, Change, Design, FitsQuota, IsPlanFor, Layout, ListsChange, Picture, Piece, Pool, Scratch, changed, changed_layout, layout_in, overlaid, painted_over, picture_in, plan_of, tile_count, world}
 use Rattle.mls_paint.proofs.OwnerFrames.{layout_in-at}
-use Rattle.mls_session.specs.Inner.{ArePlanned, FitsQuota, ListsChange, changed, changed_layout, painted_over}
-use Rattle.mls_session.specs.Designs.{Design}
-use Rattle.mls_session.specs.declared.change.Change.{Change}
 
 -- ---- pieces of each plane
 -- the change is listed for one plane more

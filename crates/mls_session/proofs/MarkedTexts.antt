@@ -1,17 +1,8 @@
 -- The text of a layout with its marks, appended part by part.
-use Rattle.std.proofs.Common.{◌≡◌, ℕ, ◌+◌, ◌≤◌, List, [], ◌∷◌, ◌++◌, length, sym, ap, ◌∙◌, append_assoc, length-append, arith}
-use Rattle.std.specs.Prelude.{codes}
+use Rattle.std.proofs.Common.{◌≡◌, ℕ, ◌+◌, ◌≤◌, List, [], ◌∷◌, ◌++◌, length, sym, ap, ◌∙◌, append_assoc, length-append, arith, codes}
 use Rattle.std.proofs.lemmas.List.{length-map}
-use Rattle.mls_geom.specs.Layouts.{Layout}
-use Rattle.mls_geom.specs.Pictures.{Picture}
-use Rattle.mls_geom.specs.Rects.{Rect}
-use Rattle.mls_geom.specs.StripLists.{strips_of}
-use Rattle.mls_geom.specs.World.{world}
-use Rattle.mls_geom.specs.declared.piece.Piece.{Piece}
-use Rattle.mls_library.specs.MarkedCells.{dirty_lines, mark_lines, marked, marked_line_count, marked_text}
-use Rattle.mls_library.specs.SavedCells.{end_lines, header_lines, layers_lines, rect_words, spaced, strips_on, text_of, type_numbers}
+use Rattle.mls_session.specs.Words.{Layout, Picture, Piece, Rect, Tech, dirty_lines, end_lines, header_lines, layers_lines, mark_lines, marked, marked_line_count, marked_text, rect_words, spaced, strips_of, strips_on, text_of, type_numbers, world}
 use Rattle.mls_library.proofs.SavedTexts.{text_of-append}
-use Rattle.mls_tech.specs.Readings.{Tech}
 use Rattle.mls_session.proofs.SavedCounts.{kind_lines-few, strips_few}
 
 five_texts : (a b c d e : List (List ℕ)) → text_of ((a ++ (b ++ c)) ++ (d ++ e)) ≡ text_of a ++ (text_of b ++ (text_of c ++ (text_of d ++ text_of e)))

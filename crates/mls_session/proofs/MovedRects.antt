@@ -1,20 +1,14 @@
 -- Moved rectangles, and their squares.
-use Rattle.std.proofs.Common.{◌≡◌, Bool, true, false, ℕ, ℤ, to_z, of_z, pos, negsuc, ◌-◌, ◌<◌, ◌≤◌, ◌+ℤ◌, ◌-ℤ◌, ◌≤ℤ◌, ◌<ℤ◌, ◌&&◌, ◌||◌, if◌then◌else◌, nat_le, nat_lt, Option, Some, None, Result, Ok, Err, inl, inr, ◌⊎◌, refl, sym, ap, ◌∙◌, subst, arith}
+use Rattle.std.proofs.Common.{◌≡◌, Bool, true, false, ℕ, ℤ, to_z, of_z, pos, negsuc, ◌-◌, ◌<◌, ◌≤◌, ◌+ℤ◌, ◌-ℤ◌, ◌≤ℤ◌, ◌<ℤ◌, ◌&&◌, ◌||◌, if◌then◌else◌, nat_le, nat_lt, Option, Some, None, Result, Ok, Err, inl, inr, ◌⊎◌, refl, sym, ap, ◌∙◌, subst, arith, FitsSigned, int_le, int_lt, nat_abs}
 use Rattle.std.specs.Int.{saturate_signed, w32}
-use Rattle.std.specs.Prelude.{FitsSigned, int_le, int_lt, nat_abs}
 use Rattle.std.specs.Result.{result_ok}
 use Rattle.std.proofs.Math.Bool.{and-false}
-use Rattle.std.proofs.lemmas.Bool.{cases_Bool, cases_lt}
+use Rattle.std.proofs.lemmas.Bool.{cases_Bool, cases_lt, or_left, or_parts, or_right}
 use Rattle.std.proofs.lemmas.Bool.Decides.{nat_tests}
 use Rattle.std.proofs.lemmas.Int.{ints, to_z-of_z}
 use Rattle.std.proofs.lemmas.Option.{same_Some}
-use Rattle.mls_geom.specs.Rects.{IsRectangleIn, Rect, holds}
-use Rattle.mls_geom.specs.World.{coordinate_of, is_outside, origin, rect_of, world}
-use Rattle.mls_geom.specs.declared.rect.RectFault.{RectFault}
-use Rattle.mls_geom.specs.declared.rect.RectFault.TheVariants.{Empty, Outside}
+use Rattle.mls_session.proofs.Words.{Empty, IsRectangleIn, Outside, Rect, RectFault, coordinate_of, holds, is_outside, moved_line, moved_rect, or_none, origin, rect_of, world, world_has}
 use Rattle.mls_geom.proofs.Holds.{between_holds, holds_between}
-use Rattle.mls_session.specs.Changes.{world_has}
-use Rattle.mls_session.specs.Bounds.{moved_line, moved_rect, or_none}
 
 -- ---- lines
 -- the world has no line at this coordinate, counted as the program does
@@ -91,10 +85,6 @@ within : (z : ℤ) → is_beyond z ≡ false → (pos (nat_abs z) ≡ z) × (314
 within (pos n) h = (refl, grind (arith, ints, nat_tests), grind (arith, ints, nat_tests))
 within (negsuc n) h = absurd (cc h)
 
-neither : (a b : Bool) → (a || b) ≡ false → (a ≡ false) × (b ≡ false)
-neither true b h = absurd (cc h)
-neither false b h = (refl, h)
-
 kept : (b : Bool) (s r : Rect) → (if b then None else Some s) ≡ Some r → (b ≡ false) × (s ≡ r)
 kept true s r h = absurd (cc h)
 kept false s r h = (refl, same_Some s r h)
@@ -106,9 +96,9 @@ lost false s h = absurd (cc h)
 pub IsMoved-moved_rect : (e r : Rect) (dx dy : ℤ) → e.left < e.right → e.bottom < e.top → moved_rect e dx dy ≡ Some r → IsMoved e r dx dy
 IsMoved-moved_rect e r dx dy wide tall is =
     let stays = kept (goes_beyond e dx dy) (lines_moved e dx dy) r (sym (moved_rect-is e dx dy wide tall) ∙ is) in
-    let three = neither (is_beyond (pos e.left +ℤ dx) || is_beyond (pos e.bottom +ℤ dy) || is_beyond (pos e.right +ℤ dx)) (is_beyond (pos e.top +ℤ dy)) stays.0 in
-    let two = neither (is_beyond (pos e.left +ℤ dx) || is_beyond (pos e.bottom +ℤ dy)) (is_beyond (pos e.right +ℤ dx)) three.0 in
-    let one = neither (is_beyond (pos e.left +ℤ dx)) (is_beyond (pos e.bottom +ℤ dy)) two.0 in
+    let three = or_parts (is_beyond (pos e.left +ℤ dx) || is_beyond (pos e.bottom +ℤ dy) || is_beyond (pos e.right +ℤ dx)) (is_beyond (pos e.top +ℤ dy)) stays.0 in
+    let two = or_parts (is_beyond (pos e.left +ℤ dx) || is_beyond (pos e.bottom +ℤ dy)) (is_beyond (pos e.right +ℤ dx)) three.0 in
+    let one = or_parts (is_beyond (pos e.left +ℤ dx)) (is_beyond (pos e.bottom +ℤ dy)) two.0 in
     let left = within (pos e.left +ℤ dx) one.0 in
     let bottom = within (pos e.bottom +ℤ dy) one.1 in
     let right = within (pos e.right +ℤ dx) two.1 in
@@ -158,35 +148,24 @@ alike-moved line w z sum counted is =
     let same : w +ℤ z ≡ moved_line line z = omega (arith, ints, counted) in
     subst (AreAlike sum) same (alike-saturated (w +ℤ z) sum is)
 
-any_of : (a b c d : Bool) → (a ≡ true) ⊎ ((b ≡ true) ⊎ ((c ≡ true) ⊎ (d ≡ true))) → (a || b || c || d) ≡ true
-any_of true b c d h = refl
-any_of false true c d h = refl
-any_of false false true d h = refl
-any_of false false false true h = refl
-any_of false false false false (inl h) = absurd (cc h)
-any_of false false false false (inr (inl h)) = absurd (cc h)
-any_of false false false false (inr (inr (inl h))) = absurd (cc h)
-any_of false false false false (inr (inr (inr h))) = absurd (cc h)
-
 no_rect : (a b : Bool) (s : Rect) → b ≡ true → or_none (if a then Err Empty else (if b then Err Outside else Ok s)) ≡ None
 no_rect true b s h = refl
 no_rect false true s h = refl
 no_rect false false s h = absurd (cc h)
 
 -- no rectangle has a line outside the world
-none-outside :
-    (l b r t : ℤ) → (is_outside l ≡ true) ⊎ ((is_outside b ≡ true) ⊎ ((is_outside r ≡ true) ⊎ (is_outside t ≡ true))) → or_none (rect_of l b r t) ≡ None
+none-outside : (l b r t : ℤ) → (is_outside l || is_outside b || is_outside r || is_outside t) ≡ true → or_none (rect_of l b r t) ≡ None
 unfolding rect_of
-none-outside l b r t one =
-    let out = any_of (is_outside l) (is_outside b) (is_outside r) (is_outside t) one in
-    no_rect (int_le r l || int_le t b) (is_outside l || is_outside b || is_outside r || is_outside t) _ out
+none-outside l b r t out = no_rect (int_le r l || int_le t b) (is_outside l || is_outside b || is_outside r || is_outside t) _ out
 
 same-alike :
     (l b r t l' b' r' t' : ℤ) → AreAlike l l' → AreAlike b b' → AreAlike r r' → AreAlike t t' → or_none (rect_of l b r t) ≡ or_none (rect_of l' b' r' t')
-same-alike l b r t l' b' r' t' (inr out) bottom right top = none-outside l b r t (inl out.0) ∙ sym (none-outside l' b' r' t' (inl out.1))
-same-alike l b r t l' b' r' t' left (inr out) right top = none-outside l b r t (inr (inl out.0)) ∙ sym (none-outside l' b' r' t' (inr (inl out.1)))
-same-alike l b r t l' b' r' t' left bottom (inr out) top = none-outside l b r t (inr (inr (inl out.0))) ∙ sym (none-outside l' b' r' t' (inr (inr (inl out.1))))
-same-alike l b r t l' b' r' t' left bottom right (inr out) = none-outside l b r t (inr (inr (inr out.0))) ∙ sym (none-outside l' b' r' t' (inr (inr (inr out.1))))
+same-alike l b r t l' b' r' t' (inr out) bottom right top =
+    none-outside l b r t (or_left _ _ (or_left _ _ (or_left _ _ out.0))) ∙ sym (none-outside l' b' r' t' (or_left _ _ (or_left _ _ (or_left _ _ out.1))))
+same-alike l b r t l' b' r' t' left (inr out) right top =
+    none-outside l b r t (or_left _ _ (or_left _ _ (or_right _ _ out.0))) ∙ sym (none-outside l' b' r' t' (or_left _ _ (or_left _ _ (or_right _ _ out.1))))
+same-alike l b r t l' b' r' t' left bottom (inr out) top = none-outside l b r t (or_left _ _ (or_right _ _ out.0)) ∙ sym (none-outside l' b' r' t' (or_left _ _ (or_right _ _ out.1)))
+same-alike l b r t l' b' r' t' left bottom right (inr out) = none-outside l b r t (or_right _ _ out.0) ∙ sym (none-outside l' b' r' t' (or_right _ _ out.1))
 same-alike l b r t l' b' r' t' (inl left) (inl bottom) (inl right) (inl top) = rw (left, bottom, right, top) refl
 
 result_ok-is : (made : Result Rect RectFault) → result_ok made ≡ or_none made

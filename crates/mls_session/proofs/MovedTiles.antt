@@ -7,26 +7,12 @@ use Rattle.std.proofs.lemmas.Bool.{and_from, and_parts, cases_Bool}
 use Rattle.std.proofs.lemmas.Bool.Decides.{same_from_decides}
 use Rattle.std.proofs.lemmas.List.Elements.{All-contains}
 use Rattle.std.proofs.lemmas.List.Folds.{Any-from_list_any, list_any-from_Any}
-use Rattle.mls_geom.specs.Pictures.{Picture, columns, overlaid, rows}
-use Rattle.mls_geom.specs.Rects.{IsRectangleIn, Rect, holds}
-use Rattle.mls_geom.specs.World.{world}
-use Rattle.mls_geom.specs.declared.piece.Piece.{Piece}
+use Rattle.mls_session.proofs.Words.{AreInArea, AreStrips, IsFound, IsPlane, IsRectangleIn, LaidTile, Picture, Piece, Pool, Rect, Tile, block_at, columns, dumped, holds, kind_or_space, leaves_world, moved_picture, moved_rect, overlaid, picture_in, rows, shown, tile_count, tiles_of, world, world_has}
 use Rattle.mls_geom.proofs.Holds.{between_holds, holds_between}
 use Rattle.mls_geom.proofs.PiecePictures.{holds_outer}
 use Rattle.mls_geom.proofs.Squares.{Contains-range_with_len, range_with_len-Contains}
-use Rattle.mls_geom.specs.Strips.{AreStrips}
-use Rattle.mls_geom.specs.TileCounts.{tile_count}
-use Rattle.mls_paint.specs.Planes.{picture_in}
-use Rattle.mls_tilepool.specs.Pools.{Pool, tiles_of}
-use Rattle.mls_tilepool.specs.declared.tile.Tile.{Tile}
-use Rattle.mls_stitch.specs.Areas.{AreInArea, IsFound}
-use Rattle.mls_stitch.specs.Tilings.{IsPlane, block_at, shown}
-use Rattle.mls_stitch.specs.declared.laid_tile.LaidTile.{LaidTile}
 use Rattle.mls_stitch.proofs.ShownTiles.{KeysDiffer, shown-inside, shown-outside}
 use Rattle.mls_stitch.proofs.Sides.{legal-AreBlocks}
-use Rattle.mls_layout.specs.Moves.{kind_or_space, moved_picture}
-use Rattle.mls_session.specs.Changes.{dumped, world_has, leaves_world}
-use Rattle.mls_session.specs.Bounds.{moved_rect}
 use Rattle.mls_session.proofs.MovedRects.{IsMoved-moved_rect, holds-IsMoved, holds_at, square-leaves}
 use Rattle.mls_session.proofs.FoundTiles.{length-strips}
 use Rattle.mls_session.proofs.TilePieces.{ArePatches, few-ArePatches, is_covered}

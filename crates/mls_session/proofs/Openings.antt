@@ -2,18 +2,10 @@
 use Rattle.std.proofs.Common.{◌≡◌, ◌≢◌, ℕ, zero, suc, ◌+◌, ◌*◌, List, [], ◌∷◌, ◌++◌, length, get_or, All, refl, sym, ap, ◌∙◌, subst, length-append, add-mul, arith}
 use Rattle.std.proofs.Math.Path.{fun_ext}
 use Rattle.std.proofs.lemmas.List.Elements.{All-push}
-use Rattle.mls_geom.specs.Layouts.{Layout}
-use Rattle.mls_geom.specs.Pictures.{empty_picture}
-use Rattle.mls_tilepool.specs.Pools.{Pool, unreserved}
-use Rattle.mls_stitch.specs.Tilings.{shown}
-use Rattle.mls_paint.specs.Owners.{AddsOwners}
-use Rattle.mls_paint.specs.Planes.{AddsOwner, layout_in, picture_in}
+use Rattle.mls_session.proofs.Words.{AddsOwner, AddsOwners, Config, HasRightMarks, IsChecked, Layout, Pool, blank, empty_picture, layout_in, layout_of, opening, opening_checking, picture_in, shown, unreserved}
 use Rattle.mls_paint.proofs.OwnerFrames.{AddsOwners-push}
 use Rattle.mls_layout.proofs.PlacedUses.{flattened-no_uses}
-use Rattle.mls_errorplane.specs.Checkings.{IsChecked, opening_checking}
 use Rattle.mls_errorplane.proofs.EmptyLayouts.{opening-IsChecked}
-use Rattle.mls_session.specs.Own.{Config, blank, layout_of, opening}
-use Rattle.mls_session.specs.Designs.{HasRightMarks}
 
 -- the planes show nothing
 abbrev pub AreSpace : Pool → List ℕ → Type 0

@@ -1,39 +1,14 @@
 -- Own paint shows types on their own planes alone, whatever was said, where the cells do; and so does the layout.
-use Rattle.std.proofs.Common.{◌≡◌, ◌≢◌, ℕ, zero, suc, ◌+◌, ℤ, pos, negsuc, ◌-ℤ◌, ◌==◌, ◌&&◌, nat_le, nat_lt, not, Bool, true, false, cond, if◌then◌else◌, Option, Some, None, Result, Ok, Err, List, [], ◌∷◌, length, All, slice_get, refl, sym, ap, ◌∙◌, subst, eqb-true}
-use Rattle.std.specs.Option.{option_and_then, option_map, option_map_or, unwrap_or}
-use Rattle.std.proofs.lemmas.Bool.{cond-false, cond-true, eq-eqb}
+use Rattle.std.proofs.Common.{◌≡◌, ◌≢◌, ℕ, zero, suc, ◌+◌, ℤ, pos, negsuc, ◌-ℤ◌, ◌==◌, ◌&&◌, Bool, true, false, cond, if◌then◌else◌, Option, Some, None, List, [], ◌∷◌, All, slice_get, refl, sym, ap, ◌∙◌, subst, eqb-true, option_and_then, option_map, unwrap_or, eq-eqb}
+use Rattle.std.proofs.lemmas.Bool.{cond-false, cond-true}
 use Rattle.std.proofs.lemmas.List.Elements.{All-map}
 use Rattle.std.proofs.lemmas.Option.{get_or_from_slice_get, same_Some, slice_get_within}
-use Rattle.mls_geom.specs.Layouts.{Layout}
-use Rattle.mls_geom.specs.Pictures.{Picture, empty_picture, painted}
-use Rattle.mls_geom.specs.Rects.{Rect, holds}
-use Rattle.mls_geom.specs.TileCounts.{tile_count}
-use Rattle.mls_geom.specs.World.{rect_of, world}
-use Rattle.mls_geom.specs.declared.rect.RectFault.{RectFault}
-use Rattle.mls_geom.specs.declared.rect.RectFault.TheVariants.{Empty, Outside}
+use Rattle.mls_session.proofs.Words.{CellUse, Command, Config, Designed, Drawn, Entry, HasStrips, HaveOwnCells, HoldsOwnTypes, IsLegal, JournalFull, Kept, Layout, OwnState, Picture, Pool, Rect, Reply, Run, Setup, ShowOwnTypes, ShowsOwnTypes, Tech, Terms, area_of, cell_at, cell_layout, cell_shown, checked, checks, design_step, dumped_layout, empty_picture, erased_layout, flattened, holds, kind_or_space, layout_in, layout_of, moved_picture, over, own_check, own_step, painted, plane_of_type, rect_of, run_from, said_next, terms_of, use_layout, uses_layout, why_step, with_plane, world}
 use Rattle.mls_kinds.specs.KindSets.{has_bit as has_type}
-use Rattle.mls_tech.specs.Readings.{Tech, plane_of_type}
-use Rattle.mls_tilepool.specs.Pools.{Pool}
-use Rattle.mls_paint.specs.Planes.{HasStrips, layout_in}
-use Rattle.mls_errorplane.specs.DirtyLists.{area_of}
-use Rattle.mls_library.specs.Libraries.{ShowOwnTypes, cell_layout}
-use Rattle.mls_library.specs.SavedCells.{HoldsOwnTypes, ShowsOwnTypes}
-use Rattle.mls_layout.specs.Moves.{kind_or_space, moved_picture}
-use Rattle.mls_layout.specs.Uses.{cell_shown, flattened, most_uses, over, use_layout, uses_layout}
-use Rattle.mls_layout.specs.declared.uses.CellUse.{CellUse}
-use Rattle.mls_session.specs.Changes.{layout_leaves_world}
-use Rattle.mls_session.specs.Journals.{IsLegal, Kept, Run, run_from, said_next}
-use Rattle.mls_session.specs.Own.{Config, Designed, Drawn, are_types, box_step, cell_at, change_step, check_in, dump_step, dumped_layout, erase_step, erased_layout, exceeds_quota, get_in, get_step, layout_of, paint_on, paint_step, what_step, why_step, with_plane}
-use Rattle.mls_session.specs.OwnSteps.{HaveOwnCells, OwnState, Terms, caught_up, checked, checks, design_step, ending, own_check, own_step}
-use Rattle.mls_session.specs.Setups.{terms_of}
-use Rattle.mls_session.specs.declared.command.Command.{Command}
 use Rattle.mls_session.specs.declared.command.Command.TheVariants.{Box, Paint, Erase, Dump, GetCell, What, Save, Check, CatchUp, Why, Count}
-use Rattle.mls_session.specs.declared.journal.Entry.{Entry}
-use Rattle.mls_session.specs.declared.refusal.Refusal.TheVariants.{CellOutside, JournalFull, Quota, TooManyUses, UnknownType}
-use Rattle.mls_session.specs.declared.reply.Reply.{Reply}
-use Rattle.mls_session.specs.declared.setup.Setup.{Setup}
-use Rattle.mls_session.specs.declared.reply.Reply.TheVariants.{Done, Refused}
-use Rattle.mls_session.proofs.CheckedDesigns.{checked_some}
+use Rattle.mls_session.specs.declared.reply.Reply.TheVariants.{Refused}
+use Rattle.mls_session.proofs.CheckedDesigns.{caught_up-keeps, checked_some}
+use Rattle.mls_session.proofs.DrawnSteps.{HoldsOfChanges, box_holds, check_holds, dump_holds, erase_holds, get_holds, paint_holds, what_holds}
 use Rattle.mls_session.proofs.DumpedRects.{layout_in-outside}
 use Rattle.mls_session.proofs.JournalRuns.{Leads-from}
 
@@ -84,80 +59,9 @@ module _ (config : Config) where
       own_either (moved_picture (cell plane) dx dy x y == 0) plane (layout plane x y) (moved_picture (cell plane) dx dy x y) (own plane x y)
       (own_moved cell dx dy others plane x y)
 
-  -- ---- steps of what is drawn
-  abbrev DrawsOwn : Drawn × Reply → Type 0
-  DrawsOwn step = IsOwn step.0.paint
-
-  draws_either : (test : Bool) (one other : Drawn × Reply) → DrawsOwn one → DrawsOwn other → DrawsOwn (if test then one else other)
-  draws_either true one other a b = a
-  draws_either false one other a b = b
-
-  box_own : (drawn : Drawn) (made : Result Rect RectFault) → IsOwn drawn.paint → DrawsOwn (box_step drawn made)
-  box_own drawn (Ok e) own = own
-  box_own drawn (Err Empty) own = own
-  box_own drawn (Err Outside) own = own
-
-  paint_own_on : (drawn : Drawn) (e : Rect) (kind : ℕ) (found : Option ℕ) → plane_of_type config.tech.type_planes kind ≡ found → IsOwn drawn.paint
-      → DrawsOwn (paint_on config drawn e kind found)
-  paint_own_on drawn e kind None on own = own
-  paint_own_on drawn e kind (Some plane) on own =
-      let picture = painted (drawn.paint plane) (record { rect = e; kind = kind }) in
-      draws_either (nat_lt config.quota (tile_count world picture)) (drawn, Refused Quota) (record drawn { paint = with_plane drawn.paint plane picture }, Done)
-      own (own_painted drawn.paint e kind plane on own)
-
-  paint_own : (drawn : Drawn) (box : Option Rect) (kind : Option ℕ) → IsOwn drawn.paint → DrawsOwn (paint_step config drawn box kind)
-  paint_own drawn None kind own = own
-  paint_own drawn (Some e) None own = own
-  paint_own drawn (Some e) (Some kind) own = paint_own_on drawn e kind (plane_of_type config.tech.type_planes kind) refl own
-
-  change_own : (drawn : Drawn) (layout : Layout) → IsOwn drawn.paint → IsOwn layout → DrawsOwn (change_step config drawn layout)
-  change_own drawn layout own changed = draws_either (exceeds_quota config layout) (drawn, Refused Quota) (record drawn { paint = layout }, Done) own changed
-
-  erase_own : (drawn : Drawn) (box : Option Rect) (kinds : Option ℕ) → IsOwn drawn.paint → DrawsOwn (erase_step config drawn box kinds)
-  erase_own drawn None kinds own = own
-  erase_own drawn (Some e) None own = own
-  erase_own drawn (Some e) (Some kinds) own =
-      draws_either (not (are_types config.tech kinds)) (drawn, Refused UnknownType) (change_step config drawn (erased_layout drawn.paint e kinds)) own
-      (change_own drawn (erased_layout drawn.paint e kinds) own (own_erased drawn.paint e kinds own))
-
-  dump_own : (drawn : Drawn) (cell : Option Layout) (dx dy : ℤ) → ((layout : Layout) → cell ≡ Some layout → IsOwn layout) → IsOwn drawn.paint
-      → DrawsOwn (dump_step config drawn cell dx dy)
-  dump_own drawn None dx dy cells own = own
-  dump_own drawn (Some cell) dx dy cells own =
-      draws_either (layout_leaves_world config.tech.plane_count cell dx dy) (drawn, Refused CellOutside) (change_step config drawn (dumped_layout drawn.paint cell dx dy)) own
-      (change_own drawn (dumped_layout drawn.paint cell dx dy) own (own_dumped drawn.paint cell dx dy own (cells cell refl)))
-
-  get_own_in : (drawn : Drawn) (id : ℕ) (cell : Option Layout) (dx dy : ℤ) → IsOwn drawn.paint → DrawsOwn (get_in config drawn id cell dx dy)
-  get_own_in drawn id None dx dy own = own
-  get_own_in drawn id (Some cell) dx dy own =
-      draws_either (layout_leaves_world config.tech.plane_count cell dx dy) (drawn, Refused CellOutside) _ own
-      (draws_either (nat_le most_uses (length drawn.uses)) (drawn, Refused TooManyUses) _ own own)
-
-  get_own : (drawn : Drawn) (cell : Option ℕ) (dx dy : ℤ) → IsOwn drawn.paint → DrawsOwn (get_step config drawn cell dx dy)
-  get_own drawn None dx dy own = own
-  get_own drawn (Some id) dx dy own = get_own_in drawn id (slice_get config.cells id) dx dy own
-
-  what_own : (drawn : Drawn) (box : Option Rect) → IsOwn drawn.paint → DrawsOwn (what_step config drawn box)
-  what_own drawn None own = own
-  what_own drawn (Some e) own = own
-
-  check_own : (drawn : Drawn) (box : Option Rect) → IsOwn drawn.paint → DrawsOwn (check_in drawn box)
-  check_own drawn None own = own
-  check_own drawn (Some e) own = own
-
   -- ---- check steps draw nothing
   checked_own : (old new : Designed) → checked config old ≡ Some new → IsOwn old.drawn.paint → IsOwn new.drawn.paint
   checked_own old new is own = let (some, fits, same) = checked_some config old new is in subst (λ (d : Designed). IsOwn d.drawn.paint) (sym same) own
-
-  caught_up_next : (count : ℕ) (old : Designed) (next : Option Designed) → checked config old ≡ next
-      → ((mid : Designed) → IsOwn mid.drawn.paint → IsOwn (caught_up count config mid).0.drawn.paint) → IsOwn old.drawn.paint
-      → IsOwn (option_map_or (caught_up count config) next (old, ending old)).0.drawn.paint
-  caught_up_next count old None at more own = own
-  caught_up_next count old (Some mid) at more own = more mid (checked_own old mid at own)
-
-  caught_up_own : (count : ℕ) (old : Designed) → IsOwn old.drawn.paint → IsOwn (caught_up count config old).0.drawn.paint
-  caught_up_own zero old own = own
-  caught_up_own (suc count) old own = caught_up_next count old (checked config old) refl (caught_up_own count) own
 
   why_own : (old : Designed) (box : Option Rect) → IsOwn old.drawn.paint → IsOwn (why_step config old box).0.drawn.paint
   why_own old None own = own
@@ -169,17 +73,32 @@ module _ (config : Config) where
     cell_own None layout is = absurd (cc is)
     cell_own (Some id) layout is = subst IsOwn (get_or_from_slice_get config.cells id layout layout is) (cells id layout (slice_get_within config.cells id layout is))
 
+    abbrev DrawsOwn : Option Rect → Drawn × Reply → Type 0
+    DrawsOwn rect step = IsOwn step.0.paint
+
+    draws_own : (drawn : Drawn) → IsOwn drawn.paint → HoldsOfChanges config drawn DrawsOwn
+    draws_own drawn own = record {
+      refused = λ rect refusal memory full. own;
+      looked = λ kinds. own;
+      asked = λ e. own;
+      boxed = λ e. own;
+      paints = λ e kind plane on. own_painted drawn.paint e kind plane on own;
+      erases = λ e kinds. own_erased drawn.paint e kinds own;
+      dumps = λ id cell dx dy at stays. own_dumped drawn.paint cell dx dy own (cell_own id cell at);
+      places = λ id cell dx dy at stays. own;
+    }
+
     step_own : (old : Designed) (command : Command) → IsOwn old.drawn.paint → IsOwn (design_step config old command).0.drawn.paint
     unfolding design_step
-    step_own old (Box left bottom right top) own = box_own old.drawn (rect_of left bottom right top) own
-    step_own old (Paint kind) own = paint_own old.drawn old.drawn.box kind own
-    step_own old (Erase kinds) own = erase_own old.drawn old.drawn.box kinds own
-    step_own old (Dump cell dx dy) own = dump_own old.drawn (cell_at config cell) dx dy (cell_own cell) own
-    step_own old (GetCell cell dx dy) own = get_own old.drawn cell dx dy own
-    step_own old What own = what_own old.drawn old.drawn.box own
+    step_own old (Box left bottom right top) own = box_holds config old.drawn DrawsOwn (draws_own old.drawn own) (rect_of left bottom right top)
+    step_own old (Paint kind) own = paint_holds config old.drawn DrawsOwn (draws_own old.drawn own) old.drawn.box kind
+    step_own old (Erase kinds) own = erase_holds config old.drawn DrawsOwn (draws_own old.drawn own) old.drawn.box kinds
+    step_own old (Dump cell dx dy) own = dump_holds config old.drawn DrawsOwn (draws_own old.drawn own) cell dx dy
+    step_own old (GetCell cell dx dy) own = get_holds config old.drawn DrawsOwn (draws_own old.drawn own) cell dx dy
+    step_own old What own = what_holds config old.drawn DrawsOwn (draws_own old.drawn own) old.drawn.box
     step_own old Save own = own
-    step_own old Check own = check_own old.drawn old.drawn.box own
-    step_own old CatchUp own = caught_up_own (area_of old.checking.dirty) old own
+    step_own old Check own = check_holds config old.drawn DrawsOwn (draws_own old.drawn own) old.drawn.box
+    step_own old CatchUp own = caught_up-keeps config (λ d. IsOwn d.drawn.paint) checked_own (area_of old.checking.dirty) old own
     step_own old Why own = why_own old old.drawn.box own
     step_own old Count own = own
 

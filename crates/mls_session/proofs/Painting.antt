@@ -1,18 +1,6 @@
 -- Painting a type is repainting the plane on which it lies.
 use Rattle.std.proofs.Common.{◌≡◌, ℕ, ◌<◌, List, [], ◌∷◌, length, get_or, Option, Some}
-use Rattle.mls_geom.specs.Rects.{Rect}
-use Rattle.mls_geom.specs.Pictures.{overlaid}
-use Rattle.mls_geom.specs.TileCounts.{tile_count}
-use Rattle.mls_geom.specs.World.{world}
-use Rattle.mls_geom.specs.declared.piece.Piece.{Piece}
-use Rattle.mls_tech.specs.Readings.{plane_of_type}
-use Rattle.mls_tilepool.specs.Pools.{Pool}
-use Rattle.mls_stitch.specs.Tilings.{ChangesOnly}
-use Rattle.mls_paint.specs.Planes.{picture_in}
-use Rattle.mls_session.specs.Own.{Config, Drawn, paint_step, repaint_step}
-use Rattle.mls_session.specs.Designs.{AreAtHome, Design, drawn_of}
-use Rattle.mls_session.specs.declared.refusal.Refusal.TheVariants.{Quota}
-use Rattle.mls_session.specs.declared.reply.Reply.{Reply}
+use Rattle.mls_session.proofs.Words.{AreAtHome, ChangesOnly, Config, Design, Drawn, Piece, Pool, Quota, Rect, Reply, drawn_of, overlaid, paint_step, picture_in, plane_of_type, repaint_step, tile_count, world}
 use Rattle.mls_session.specs.declared.reply.Reply.TheVariants.{Done, Refused}
 use Rattle.mls_session.proofs.RepaintedPlanes.{repaint_step-Done, repaint_step-Refused}
 

@@ -1,24 +1,14 @@
 -- A cell's bounds leave the world as they are moved just where a square of it does.
-use Rattle.std.proofs.Common.{◌≡◌, Bool, true, false, ℕ, ℤ, to_z, of_z, pos, ◌-◌, ◌+ℤ◌, ◌==◌, not, if◌then◌else◌, Option, Some, None, Result, Ok, Err, Contains, inl, inr, refl, sym, ap, subst, ◌∙◌, arith}
+use Rattle.std.proofs.Common.{◌≡◌, Bool, true, false, ℕ, ℤ, to_z, of_z, pos, ◌-◌, ◌+ℤ◌, ◌==◌, not, if◌then◌else◌, Option, Some, None, Result, Ok, Err, Contains, inl, inr, refl, sym, ap, subst, ◌∙◌, arith, option_and_then, FitsSigned}
 use Rattle.std.specs.Int.{w32}
 use Rattle.std.specs.List.{range_with_len}
-use Rattle.std.specs.Option.{option_and_then}
-use Rattle.std.specs.Prelude.{FitsSigned}
 use Rattle.std.proofs.lemmas.Bool.{and_parts, cases_Bool, false_from_ne_true}
 use Rattle.std.proofs.lemmas.Int.{to_z-of_z}
 use Rattle.std.proofs.lemmas.List.Folds.{Any-from_list_any}
-use Rattle.mls_geom.specs.Layouts.{Layout}
-use Rattle.mls_geom.specs.Rects.{Rect, holds}
-use Rattle.mls_geom.specs.World.{world}
+use Rattle.mls_session.proofs.Words.{CellOutside, Layout, Rect, Refusal, bounds_placed, dumped_rect, has_paint, holds, layout_leaves_world, leaves_world, moved_rect, painted_bounds, placed_bounds, world, world_has}
 use Rattle.mls_geom.proofs.Squares.{range_with_len-Contains}
-use Rattle.mls_library.specs.Bounds.{has_paint, painted_bounds}
 use Rattle.mls_library.proofs.FirstPlanes.{any_at}
 use Rattle.mls_library.proofs.SmallestRects.{IsBounds, IsBounds-bounds_of}
-use Rattle.mls_session.specs.Bounds.{dumped_rect, moved_rect}
-use Rattle.mls_session.specs.Changes.{world_has, layout_leaves_world, leaves_world}
-use Rattle.mls_session.specs.Inner.{bounds_placed, placed_bounds}
-use Rattle.mls_session.specs.declared.refusal.Refusal.{Refusal}
-use Rattle.mls_session.specs.declared.refusal.Refusal.TheVariants.{CellOutside}
 use Rattle.mls_session.proofs.EditedSquares.{bounds_there, moved_rect-smallest, sized}
 use Rattle.mls_session.proofs.MovedRects.{IsMoved-moved_rect, world_has-IsMoved}
 use Rattle.mls_session.proofs.MovedTiles.{at-leaves_world}

@@ -1,17 +1,7 @@
 -- Placing a cell: the step, and the design to which it leads.
 use Rattle.std.proofs.Common.{◌≡◌, ℕ, ℤ, ◌≤◌, ◌<◌, nat_le, true, false, Option, Some, List, [], ◌∷◌, ◌++◌, length, refl, sym, ap, ◌∙◌, arith}
 use Rattle.std.proofs.lemmas.Bool.Decides.{nat_tests}
-use Rattle.mls_geom.specs.Layouts.{Layout}
-use Rattle.mls_geom.specs.Rects.{Rect}
-use Rattle.mls_tilepool.specs.Pools.{Pool}
-use Rattle.mls_paint.specs.Planes.{layout_in}
-use Rattle.mls_layout.specs.Uses.{most_uses}
-use Rattle.mls_layout.specs.declared.uses.CellUse.{CellUse}
-use Rattle.mls_errorplane.specs.ErrorPlanes.{checking_of}
-use Rattle.mls_session.specs.Changes.{layout_leaves_world}
-use Rattle.mls_session.specs.Own.{Config, Drawn, cell_at, edit_step, get_step, dirty_after}
-use Rattle.mls_session.specs.Designs.{Design, designed_of, drawn_of}
-use Rattle.mls_session.specs.declared.refusal.Refusal.TheVariants.{CellOutside, TooManyUses}
+use Rattle.mls_session.proofs.Words.{CellOutside, CellUse, Config, Design, Drawn, Layout, Pool, Rect, TooManyUses, cell_at, checking_of, designed_of, dirty_after, drawn_of, edit_step, get_step, layout_in, layout_leaves_world, most_uses}
 use Rattle.mls_session.specs.declared.reply.Reply.TheVariants.{Done, Refused}
 use Rattle.mls_session.proofs.CommandSteps.{edit_step-Done}
 

@@ -1,17 +1,7 @@
 -- Planes that are painted in turn, each by the plan that is kept for it.
 use Rattle.std.proofs.Common.{◌≡◌, ℕ, ◌+◌, ◌<◌, ◌≤◌, List, length, get_or, IfSome, sym, ap, subst, ◌∙◌}
 use Rattle.std.proofs.lemmas.List.{get_or_default}
-use Rattle.mls_geom.specs.Pictures.{Picture, overlaid}
-use Rattle.mls_geom.specs.TileCounts.{tile_count}
-use Rattle.mls_geom.specs.World.{world}
-use Rattle.mls_tilepool.specs.Pools.{Pool, room_of, tiles_of}
-use Rattle.mls_stitch.specs.Areas.{AreSearched, ListTouched}
-use Rattle.mls_stitch.specs.Tilings.{ChangesOnly, block_at}
-use Rattle.mls_paint.specs.Planes.{HasStrips, layout_in, picture_in}
-use Rattle.mls_paint.specs.Plans.{IsPlanFor, Plan, no_plan}
-use Rattle.mls_paint.specs.Scratches.{Scratch, plan_of}
-use Rattle.mls_session.specs.Designs.{Design}
-use Rattle.mls_session.specs.Inner.{ArePlanned, FitsQuota, painted_over, planned_pieces}
+use Rattle.mls_session.proofs.Words.{ArePlanned, AreSearched, ChangesOnly, Design, FitsQuota, HasStrips, IsPlanFor, ListTouched, Picture, Plan, Pool, Scratch, block_at, layout_in, no_plan, overlaid, painted_over, picture_in, plan_of, planned_pieces, room_of, tile_count, tiles_of, world}
 use Rattle.mls_session.proofs.ChangedPlanes.{IsMade, IsMade-more, picture_in-IsMade, tiles_of-IsMade}
 use Rattle.mls_session.proofs.HomePlanes.{count-at}
 

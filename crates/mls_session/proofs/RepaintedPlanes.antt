@@ -4,19 +4,8 @@ use Rattle.std.proofs.Math.Path.{fun_ext}
 use Rattle.std.proofs.lemmas.Bool.{cases_eq, cond-true, cond-false}
 use Rattle.std.proofs.lemmas.Bool.Decides.{nat_tests}
 use Rattle.std.proofs.lemmas.Option.{get_or_from_slice_get, slice_get_within}
-use Rattle.mls_geom.specs.Rects.{Rect}
-use Rattle.mls_geom.specs.Pictures.{Picture, overlaid}
-use Rattle.mls_geom.specs.TileCounts.{tile_count}
-use Rattle.mls_geom.specs.World.{world}
-use Rattle.mls_geom.specs.declared.piece.Piece.{Piece}
-use Rattle.mls_tilepool.specs.Pools.{Pool}
-use Rattle.mls_stitch.specs.Tilings.{ChangesOnly, shown}
-use Rattle.mls_paint.specs.Planes.{layout_in, picture_at, picture_in}
+use Rattle.mls_session.proofs.Words.{AreAtHome, CellUse, ChangesOnly, Config, Design, Picture, Piece, Pool, Quota, Rect, drawn_of, layout_in, overlaid, picture_at, picture_in, repaint_step, shown, tile_count, with_plane, world}
 use Rattle.mls_paint.proofs.OwnerFrames.{layout_in-at}
-use Rattle.mls_layout.specs.declared.uses.CellUse.{CellUse}
-use Rattle.mls_session.specs.Own.{Config, repaint_step, with_plane}
-use Rattle.mls_session.specs.Designs.{AreAtHome, Design, drawn_of}
-use Rattle.mls_session.specs.declared.refusal.Refusal.TheVariants.{Quota}
 use Rattle.mls_session.specs.declared.reply.Reply.TheVariants.{Done, Refused}
 use Rattle.mls_session.proofs.HomePlanes.{owners_differ}
 

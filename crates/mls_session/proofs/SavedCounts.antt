@@ -1,19 +1,11 @@
 -- How many lines a saved layout can have: each plane has at most as many strips as the world has squares.
-use Rattle.std.proofs.Common.{◌≡◌, ℕ, ◌+◌, ◌*◌, ◌≤◌, ◌==◌, List, [], ◌∷◌, length, get_or, ap, ◌∙◌, subst, arith}
-use Rattle.std.specs.List.{count_by}
+use Rattle.std.proofs.Common.{◌≡◌, ℕ, ◌+◌, ◌*◌, ◌≤◌, ◌==◌, List, [], ◌∷◌, length, get_or, ap, ◌∙◌, subst, arith, count_by}
 use Rattle.std.proofs.lemmas.List.{length-map}
 use Rattle.std.proofs.lemmas.List.FromFn.{length-range_with_len}
 use Rattle.std.proofs.lemmas.List.Sums.{count_by-le-length, length-filter, sum_by-le}
-use Rattle.mls_geom.specs.Pictures.{Picture, columns, rows}
-use Rattle.mls_geom.specs.Rects.{Rect}
-use Rattle.mls_geom.specs.StripLists.{strips_of}
-use Rattle.mls_geom.specs.TileCounts.{is_corner, tile_count}
-use Rattle.mls_geom.specs.World.{world}
-use Rattle.mls_geom.specs.declared.piece.Piece.{Piece}
+use Rattle.mls_session.specs.Words.{Picture, Piece, Rect, Tech, columns, first_name, is_corner, layer_lines, of_kind, rect_words, rows, section_lines, spaced, strips_of, tile_count, world}
 use Rattle.mls_geom.proofs.ListedStrips.{AreStrips-strips_of}
 use Rattle.mls_geom.proofs.StripLaws.{strips_number}
-use Rattle.mls_library.specs.SavedCells.{first_name, layer_lines, of_kind, rect_words, section_lines, spaced}
-use Rattle.mls_tech.specs.Readings.{Tech}
 
 -- at most one strip begins in each square
 tile_count-squares : (extent : Rect) (picture : Picture) → tile_count extent picture ≤ length (rows extent) * length (columns extent)

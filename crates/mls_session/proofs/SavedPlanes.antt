@@ -1,13 +1,8 @@
 -- The plane of each type whose strips a saved text lists.
-use Rattle.std.proofs.Common.{◌≡◌, ℕ, suc, ◌-◌, ◌<◌, ◌≤◌, List, length, get_or, slice_get, Option, Some, ap, ◌∙◌, ne_eqb, arith}
-use Rattle.std.specs.Prelude.{IfSome}
+use Rattle.std.proofs.Common.{◌≡◌, ℕ, suc, ◌-◌, ◌<◌, ◌≤◌, List, length, get_or, slice_get, Option, Some, ap, ◌∙◌, ne_eqb, arith, IfSome}
 use Rattle.std.proofs.lemmas.Bool.{cond-false}
 use Rattle.std.proofs.lemmas.Option.{slice_get-get_or}
-use Rattle.mls_geom.specs.Layouts.{Layout}
-use Rattle.mls_geom.specs.declared.piece.Piece.{Piece}
-use Rattle.mls_library.specs.SavedCells.{layer_lines}
-use Rattle.mls_tech.specs.Readings.{Tech, plane_of_type}
-use Rattle.mls_session.specs.Inner.{IsSection, ListsPlane}
+use Rattle.mls_session.proofs.Words.{IsSection, Layout, ListsPlane, Piece, Tech, layer_lines, plane_of_type}
 use Rattle.mls_session.proofs.SavedCounts.{layer_lines-few, strips_few}
 
 plane_of_next : (type_planes : List ℕ) (t : ℕ) → t < length type_planes → plane_of_type type_planes (suc t) ≡ Some (get_or type_planes t 0)

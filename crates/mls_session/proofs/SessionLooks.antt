@@ -1,30 +1,10 @@
 -- What looks at a session return.
-use Rattle.std.proofs.Common.{◌≡◌, ◌⊎◌, inl, inr, ◌++◌, [], ℕ, ℤ, true, false, List, Result, Ok, refl, sym, ap, ◌∙◌}
+use Rattle.std.proofs.Common.{◌≡◌, ◌⊎◌, inl, inr, ◌++◌, [], ℕ, ℤ, true, false, List, Result, Ok, refl, sym, ap, ◌∙◌, append-nil}
 use Rattle.std.proofs.lemmas.Bool.{cond-false, cond-true}
-use Rattle.std.proofs.lemmas.List.{append-nil}
-use Rattle.mls_errorplane.specs.Checkings.{Checking}
-use Rattle.mls_errorplane.specs.ErrorPlanes.{marks_picture}
-use Rattle.mls_errorplane.specs.ErrorsIn.{areas_in, squares_in}
-use Rattle.mls_geom.specs.Layouts.{Layout}
-use Rattle.mls_geom.specs.Pictures.{Picture}
-use Rattle.mls_geom.specs.Rects.{Rect}
-use Rattle.mls_geom.specs.World.{rect_of}
-use Rattle.mls_geom.specs.declared.rect.RectFault.{RectFault}
-use Rattle.mls_layout.specs.declared.uses.CellUse.{CellUse}
-use Rattle.mls_library.specs.MarkedCells.{empty_layout, marked_line_count, marked_text}
-use Rattle.mls_library.specs.SavedCells.{saved_line_count, saved_text}
-use Rattle.mls_session.specs.JournalCopies.{JournalCopy}
-use Rattle.mls_session.specs.Journals.{Kept}
-use Rattle.mls_session.specs.Looks.{IsRect, Looks, errors_of, look_of, status_of, violations_of, why_in}
-use Rattle.mls_session.specs.Own.{exceeds_listed, layout_of}
-use Rattle.mls_session.specs.OwnSteps.{Terms}
-use Rattle.mls_session.specs.declared.look.Look.{Look}
+use Rattle.mls_session.proofs.Words.{CellUse, Checking, IsRect, JournalCopy, Kept, Layout, Look, Looked, Looks, Picture, Rect, RectFault, Status, Tech, Terms, areas_in, empty_layout, errors_of, exceeds_listed, layout_of, look_of, marked_line_count, marked_text, marks_picture, rect_of, saved_line_count, saved_text, squares_in, status_of, violations_of, why_in}
 use Rattle.mls_session.specs.declared.look.Look.TheVariants.{Save, Why, Status as AskStatus, Uses as AskUses, Marks, Errors as AskErrors, Violations as AskViolations, Journal as AskJournal}
-use Rattle.mls_session.specs.declared.look.Looked.{Looked}
 use Rattle.mls_session.specs.declared.look.Looked.TheVariants.{Saved, Status as HasStatus, Uses as HasUses, Marked, Errors as HasErrors, Journal as HasJournal, Refused}
-use Rattle.mls_session.specs.declared.look.Status.{Status}
 use Rattle.mls_session.specs.declared.refusal.Refusal.TheVariants.{Memory, Quota}
-use Rattle.mls_tech.specs.Readings.{Tech}
 
 -- with the text that was appended
 abbrev pub LooksMore : Terms → Kept → Look → Looked → List ℕ → List ℕ → Type 0

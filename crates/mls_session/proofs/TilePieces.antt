@@ -1,16 +1,13 @@
 -- Pieces that are made of the tiles of a list, one by one, and what they paint.
-use Rattle.std.proofs.Common.{◌≡◌, Bool, true, false, ℕ, ◌+◌, ◌<◌, ◌≤◌, ◌||◌, min, if◌then◌else◌, List, [], ◌∷◌, ◌++◌, All, get_or, take, length, length-append, le_refl, refl, sym, ap, subst, subst₂, ◌∙◌, arith}
+use Rattle.std.proofs.Common.{◌≡◌, Bool, true, false, ℕ, ◌+◌, ◌<◌, ◌≤◌, ◌||◌, min, if◌then◌else◌, List, [], ◌∷◌, ◌++◌, All, get_or, take, length, length-append, le_refl, refl, sym, ap, subst, subst₂, ◌∙◌, arith, length-take}
 use Rattle.std.specs.List.{list_any}
 use Rattle.std.proofs.Math.Bool.{or-false}
 use Rattle.std.proofs.Math.Path.{fun_ext}
-use Rattle.std.proofs.lemmas.List.{length-take, take_more}
+use Rattle.std.proofs.lemmas.List.{take_more}
 use Rattle.std.proofs.lemmas.List.Elements.{All-push}
 use Rattle.std.proofs.lemmas.List.Folds.{list_any-append}
-use Rattle.mls_geom.specs.Pictures.{Picture, overlaid, painted}
-use Rattle.mls_geom.specs.Rects.{holds}
-use Rattle.mls_geom.specs.declared.piece.Piece.{Piece}
+use Rattle.mls_session.specs.Words.{LaidTile, Picture, Piece, holds, overlaid, painted}
 use Rattle.mls_geom.proofs.Overlays.{overlaid_append}
-use Rattle.mls_stitch.specs.declared.laid_tile.LaidTile.{LaidTile}
 
 -- the square is in what is painted for one of the tiles
 abbrev pub is_covered : (LaidTile → ℕ → ℕ → Bool) → List LaidTile → ℕ → ℕ → Bool

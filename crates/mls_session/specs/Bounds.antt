@@ -1,11 +1,6 @@
 -- Where a dump moves the smallest rectangle round the squares of a cell that aren't space. This project's own.
-use Rattle.std.specs.Prelude.{ℕ, ℤ, pos, ◌+ℤ◌, ◌-ℤ◌, Option, Some, None, Result, Ok, Err}
-use Rattle.std.specs.Option.{option_and_then}
-use Rattle.mls_geom.specs.Layouts.{Layout}
-use Rattle.mls_geom.specs.Rects.{Rect}
-use Rattle.mls_geom.specs.World.{origin, rect_of}
-use Rattle.mls_geom.specs.declared.rect.RectFault.{RectFault}
-use Rattle.mls_library.specs.Bounds.{painted_bounds}
+use Rattle.std.specs.Prelude.{ℕ, ℤ, pos, ◌+ℤ◌, ◌-ℤ◌, Option, Some, None, Result, Ok, Err, option_and_then}
+use Rattle.mls_session.specs.Words.{Layout, Rect, RectFault, origin, painted_bounds, rect_of}
 
 abbrev pub or_none : Result Rect RectFault → Option Rect
 or_none (Ok rect) = Some rect

@@ -1,12 +1,8 @@
 -- What erasing and dumping make of a picture, square by square. This project's own.
 use Rattle.std.specs.Prelude.{ℕ, ℤ, pos, ◌+ℤ◌, ◌==◌, int_le, int_lt, Bool, not, ◌&&◌, if◌then◌else◌}
 use Rattle.std.specs.List.{list_any, range_with_len}
-use Rattle.mls_geom.specs.Layouts.{Layout}
-use Rattle.mls_geom.specs.Pictures.{Picture, columns, rows}
-use Rattle.mls_geom.specs.Rects.{Rect, holds}
-use Rattle.mls_geom.specs.World.{world}
+use Rattle.mls_session.specs.Words.{Layout, Picture, Rect, columns, holds, moved_picture, rows, world}
 use Rattle.mls_kinds.specs.KindSets.{has_bit as has_type}
-use Rattle.mls_layout.specs.Moves.{moved_picture}
 
 -- the picture with space in the squares of the rectangle that have one of these kinds
 abbrev pub erased : Picture → Rect → ℕ → Picture

@@ -1,16 +1,7 @@
 -- What a caller sees of a design, its own state, and its planes in the pool.
-use Rattle.std.specs.Prelude.{◌≡◌, ◌≢◌, ℕ, Bool, true, false, if◌then◌else◌, Option, Some, None, IfSome, List, [], ◌∷◌, ◌++◌, length, ⊤}
-use Rattle.std.specs.List.{All, AllPairs, Contains}
-use Rattle.mls_geom.specs.Rects.{Rect}
-use Rattle.mls_layout.specs.declared.uses.CellUse.{CellUse}
+use Rattle.std.specs.Prelude.{◌≡◌, ◌≢◌, ℕ, Bool, true, false, if◌then◌else◌, Option, Some, None, IfSome, List, [], ◌∷◌, ◌++◌, length, ⊤, All, AllPairs, Contains}
+use Rattle.mls_session.specs.Words.{AreRightIn, CellUse, ChangesAmong, Checked, ErrorPlane, HasStrips, IsChecked, Pool, Rect, ShowsMarks, checking_of, layout_in, room_of}
 use Rattle.mls_library.specs.Libraries.{HavePlanes, IsHome as AreCellsHome, ShowOwnTypes}
-use Rattle.mls_tilepool.specs.Pools.{Pool, room_of}
-use Rattle.mls_paint.specs.Owners.{ChangesAmong}
-use Rattle.mls_paint.specs.Planes.{HasStrips, layout_in}
-use Rattle.mls_errorplane.specs.Checkings.{IsChecked}
-use Rattle.mls_errorplane.specs.ErrorPlanes.{ErrorPlane, ShowsMarks, checking_of}
-use Rattle.mls_errorplane.specs.Stretches.{AreRightIn}
-use Rattle.mls_errorplane.specs.declared.checked.Checked.{Checked}
 use Rattle.mls_session.specs.Own.{Config, Designed, Drawn, layout_of}
 use Rattle.mls_session.specs.Quotas.{plane_reserve}
 use Rattle.mls_session.specs.declared.command.Command.{Command}
@@ -74,6 +65,12 @@ pub record CanDump (setup : Setup) (pool : Pool) (owners : List ℕ) : Type 0 wh
   pub apart : All (λ cell. All (λ owner. ¬ (Contains owners owner)) cell.planes) setup.library
   pub planes : HavePlanes setup.tech.plane_count setup.library
   pub own_types : ShowOwnTypes setup.tech pool setup.library
+
+-- what most calls need: the design was opened with this setup, and its planes lie in the pool beside those of the library's cells
+pub record IsReady (setup : Setup) (pool : Pool) (design : Design) : Type 0 where
+  pub home : IsHome pool design
+  pub made_for : IsMadeFor setup design
+  pub can_dump : CanDump setup pool (owners_of design)
 
 -- the fact, if the reply is a refusal
 abbrev pub OnRefused : Reply → Type 0 → Type 0

@@ -1,32 +1,17 @@
 -- The words of private contracts. A caller needs none of them.
-use Rattle.std.specs.Prelude.{◌≡◌, ℕ, ℤ, Result, Ok, Err, ◌+◌, ◌*◌, ◌^◌, ◌++◌, ◌<◌, ◌≤◌, false, true, if◌then◌else◌, Option, Some, None, List, [], ◌∷◌, IfSome, get_or, length, map}
-use Rattle.std.specs.List.{All, range_with_len}
-use Rattle.mls_geom.specs.Layouts.{Layout}
-use Rattle.mls_geom.specs.Pictures.{Picture, overlaid}
-use Rattle.mls_geom.specs.Rects.{Rect}
-use Rattle.mls_geom.specs.TileCounts.{tile_count}
-use Rattle.mls_geom.specs.World.{world}
-use Rattle.mls_geom.specs.declared.piece.Piece.{Piece}
-use Rattle.mls_library.specs.Libraries.{IsFrozen}
-use Rattle.mls_library.specs.SavedCells.{layer_lines, strips_on}
-use Rattle.mls_paint.specs.Planes.{layout_in, picture_in}
-use Rattle.mls_paint.specs.Plans.{IsPlanFor}
-use Rattle.mls_paint.specs.Scratches.{Scratch, plan_of}
-use Rattle.mls_tech.specs.Readings.{Tech, plane_of_type}
-use Rattle.mls_tilepool.specs.Pools.{Pool, room_of}
+use Rattle.std.specs.Prelude.{◌≡◌, ℕ, ℤ, Result, Ok, Err, ◌+◌, ◌*◌, ◌^◌, ◌++◌, ◌<◌, ◌≤◌, false, true, if◌then◌else◌, Option, Some, None, List, [], ◌∷◌, IfSome, get_or, length, map, All}
+use Rattle.std.specs.List.{range_with_len}
+use Rattle.mls_session.specs.Words.{CaughtUp, IsDirtyList, IsFrozen, IsPlanFor, Layout, Outcome, Picture, Piece, Pool, Rect, Scratch, Stepped, Tech, area_of, layer_lines, layout_in, overlaid, picture_in, plan_of, plane_of_type, room_of, strips_on, tile_count, world}
 use Rattle.mls_session.specs.Bounds.{moved_rect}
 use Rattle.mls_session.specs.Changes.{dumped, erased, leaves_world}
-use Rattle.mls_session.specs.Designs.{Design, IsHome, KeepsPlanes, drawn_of}
-use Rattle.mls_errorplane.specs.DirtyLists.{IsDirtyList, area_of}
-use Rattle.mls_errorplane.specs.declared.catching_up.CaughtUp.{CaughtUp}
+use Rattle.mls_session.specs.Designs.{Design, IsHome, KeepsPlanes, designed_of, drawn_of}
 use Rattle.mls_errorplane.specs.declared.catching_up.CaughtUp.TheVariants.{Done as AllChecked, Full as MarksFull, Memory as OutOfMemory}
-use Rattle.mls_errorplane.specs.declared.error_plane.Outcome.{Outcome}
-use Rattle.mls_errorplane.specs.declared.error_plane.Outcome.TheVariants.{Finished, Stale, Full as FinishFull}
-use Rattle.mls_errorplane.specs.declared.error_plane.Stepped.{Stepped}
-use Rattle.mls_errorplane.specs.declared.error_plane.Stepped.TheVariants.{Idle, Done as StepDone, Full as StepFull, Memory as StepMemory}
-use Rattle.mls_session.specs.Own.{Config, Designed}
-use Rattle.mls_session.specs.OwnSteps.{checked_times}
+use Rattle.mls_errorplane.specs.declared.error_plane.Outcome.TheVariants.{Finished}
+use Rattle.mls_errorplane.specs.declared.error_plane.Stepped.TheVariants.{Done as StepDone}
+use Rattle.mls_session.specs.Own.{Config, Designed, layout_of}
+use Rattle.mls_session.specs.OwnSteps.{checked_times, design_step}
 use Rattle.mls_session.specs.Journals.{is_memory, is_refusal, said_of}
+use Rattle.mls_session.specs.Setups.{config_of}
 use Rattle.mls_session.specs.declared.change.Change.{Change}
 use Rattle.mls_session.specs.declared.change.Change.TheVariants.{Erase as EraseChange, Dump as DumpChange}
 use Rattle.mls_session.specs.declared.command.Command.{Command}
@@ -37,7 +22,17 @@ use Rattle.mls_session.specs.declared.journal.Said.{Said}
 use Rattle.mls_session.specs.declared.refusal.Refusal.{Refusal}
 use Rattle.mls_session.specs.declared.refusal.Refusal.TheVariants.{CellOutside, Memory, Quota}
 use Rattle.mls_session.specs.declared.reply.Reply.{Reply}
+use Rattle.mls_session.specs.declared.setup.Setup.{Setup}
 use Rattle.mls_session.specs.declared.reply.Reply.TheVariants.{Done, Stopped}
+
+-- the layout that a design shows, with the cells of a setup's library
+abbrev pub layout_shown : Setup → Pool → Design → Layout
+layout_shown setup pool design = layout_of (config_of setup pool) (drawn_of pool design)
+
+-- the command takes the design from one state to the other, with this reply
+abbrev pub StepsTo : Setup → Pool → Pool → Design → Command → Reply → Design → Type 0
+StepsTo setup old new before command reply after =
+    design_step (config_of setup old) (designed_of old before) command ≡ (designed_of new after, reply)
 
 -- where bounds lie that are moved, unless they leave the world
 abbrev pub bounds_placed : Option Rect → Result (Option Rect) Refusal
@@ -149,14 +144,11 @@ pub record KeepsDrawn (old new : Pool) (before after : Design) : Type 0 where
 -- how many were done
 abbrev pub done_steps : Stepped → ℕ
 done_steps StepDone = 1
-done_steps Idle = 0
-done_steps StepFull = 0
-done_steps StepMemory = 0
+done_steps _ = 0
 
 abbrev pub finished_steps : Outcome → ℕ
 finished_steps Finished = 1
-finished_steps Stale = 0
-finished_steps FinishFull = 0
+finished_steps _ = 0
 
 -- ---- catching up
 -- the reply where this number of areas is left
@@ -167,9 +159,8 @@ caught_up_reply pending (OutOfMemory steps) = Stopped Memory pending
 
 -- how many check steps were done before memory ran out
 abbrev pub steps_of : CaughtUp → ℕ
-steps_of AllChecked = 0
-steps_of MarksFull = 0
 steps_of (OutOfMemory steps) = steps
+steps_of _ = 0
 
 -- where memory ran out while catching up, the check steps that were done are counted, and lead to the new state; other commands do none
 abbrev pub Counts : Config → Designed → Command → Executed → Designed → Type 0

@@ -1,23 +1,10 @@
 -- What a look returns: a definition of what the session keeps, which the look leaves as it is. This project's own.
-use Rattle.std.specs.Prelude.{◌≡◌, ◌⊎◌, ℕ, List, [], Result, Ok, Err, if◌then◌else◌, false, length, map, nat_lt, ⊤}
-use Rattle.std.specs.List.{All, range_with_len}
-use Rattle.mls_checker.specs.Findings.{violated_rules}
-use Rattle.mls_edgerule.specs.declared.edge_rule.EdgeRule.{EdgeRule}
-use Rattle.mls_errorplane.specs.Checkings.{Checking}
-use Rattle.mls_errorplane.specs.ErrorPlanes.{marks_picture}
-use Rattle.mls_errorplane.specs.ErrorsIn.{areas_in, squares_in}
-use Rattle.mls_errorplane.specs.Violations.{Violation, squares_in_all, strip_count, violations_in}
-use Rattle.mls_geom.specs.Layouts.{Layout}
-use Rattle.mls_geom.specs.Rects.{IsRectangleIn, Rect, meets}
-use Rattle.mls_geom.specs.TileCounts.{tile_count}
-use Rattle.mls_geom.specs.World.{rect_of, world}
-use Rattle.mls_geom.specs.declared.rect.RectFault.{RectFault}
+use Rattle.std.specs.Prelude.{◌≡◌, ◌⊎◌, ℕ, List, [], Result, Ok, Err, if◌then◌else◌, false, length, map, nat_lt, ⊤, All}
+use Rattle.std.specs.List.{range_with_len}
+use Rattle.mls_session.specs.Words.{Checking, EdgeRule, IsRectangleIn, Layout, ReadsAs, Rect, RectFault, Tech, Violation, areas_in, empty_layout, marked_line_count, marked_text, marks_picture, meets, rect_of, saved_line_count, saved_text, squares_in, squares_in_all, strip_count, tile_count, violated_rules, violations_in, world}
 use Rattle.mls_geom.specs.declared.rect.RectFault.TheVariants.{Empty, Outside}
-use Rattle.mls_library.specs.MarkedCells.{empty_layout, marked_line_count, marked_text}
-use Rattle.mls_library.specs.SavedCells.{ReadsAs, saved_line_count, saved_text}
 use Rattle.mls_session.specs.Designs.{HasRightMarks}
 use Rattle.mls_session.specs.Journals.{Kept}
-use Rattle.mls_tech.specs.Readings.{Tech}
 use Rattle.mls_session.specs.Own.{exceeds_listed, layout_of}
 use Rattle.mls_session.specs.OwnSteps.{Terms}
 use Rattle.mls_session.specs.declared.look.Look.{Look}

@@ -1,24 +1,8 @@
 -- What a design's commands do to a box, a layout and what is known of it. This project's own.
-use Rattle.std.specs.Prelude.{ℕ, ℤ, ◌==◌, nat_le, nat_lt, if◌then◌else◌, Bool, not, Option, Some, None, Result, Ok, Err, List, [], ◌∷◌, ◌++◌, length, slice_get}
-use Rattle.std.specs.List.{count_by, list_all, list_any, range_with_len, sum_by}
-use Rattle.std.specs.Option.{option_and_then}
-use Rattle.mls_edgerule.specs.declared.edge_rule.EdgeRule.{EdgeRule}
-use Rattle.mls_checker.specs.Findings.{violated_rules}
-use Rattle.mls_checker.specs.Marking.{SquareSet}
-use Rattle.mls_errorplane.specs.Checkings.{Checking, opening_checking, dirtied}
-use Rattle.mls_geom.specs.Rects.{Rect}
-use Rattle.mls_geom.specs.Layouts.{Layout}
-use Rattle.mls_geom.specs.Pictures.{Picture, columns, empty_picture, painted, rows, shows}
-use Rattle.mls_geom.specs.TileCounts.{tile_count}
-use Rattle.mls_geom.specs.World.{world}
-use Rattle.mls_geom.specs.declared.rect.RectFault.{RectFault}
+use Rattle.std.specs.Prelude.{ℕ, ℤ, ◌==◌, nat_le, nat_lt, if◌then◌else◌, Bool, not, Option, Some, None, Result, Ok, Err, List, [], ◌∷◌, ◌++◌, length, slice_get, count_by, sum_by, option_and_then}
+use Rattle.std.specs.List.{list_all, list_any, range_with_len}
+use Rattle.mls_session.specs.Words.{CellUse, Checking, EdgeRule, Layout, Picture, Rect, RectFault, SquareSet, Tech, columns, dirtied, empty_picture, flattened, members, most_flat_tiles, most_uses, opening_checking, painted, plane_of_type, rows, saved_line_count, set_of, shows, tile_count, violated_rules, world}
 use Rattle.mls_geom.specs.declared.rect.RectFault.TheVariants.{Empty, Outside}
-use Rattle.mls_kinds.specs.KindSets.{members, set_of}
-use Rattle.mls_layout.specs.Uses.{flattened, most_uses}
-use Rattle.mls_layout.specs.declared.uses.CellUse.{CellUse}
-use Rattle.mls_library.specs.MarkedCells.{most_flat_tiles}
-use Rattle.mls_library.specs.SavedCells.{saved_line_count}
-use Rattle.mls_tech.specs.Readings.{Tech, plane_of_type}
 use Rattle.mls_session.specs.Bounds.{dumped_rect}
 use Rattle.mls_session.specs.Changes.{dumped, erased, layout_leaves_world}
 use Rattle.mls_session.specs.declared.reply.Reply.{Reply}

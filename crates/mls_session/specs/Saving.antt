@@ -1,8 +1,6 @@
 -- What saving a layout returns. This project's own.
 use Rattle.std.specs.Prelude.{◌≡◌, ℕ, List, ◌++◌, ⊤}
-use Rattle.mls_geom.specs.Layouts.{Layout}
-use Rattle.mls_library.specs.SavedCells.{saved_line_count, saved_text}
-use Rattle.mls_tech.specs.Readings.{Tech}
+use Rattle.mls_session.specs.Words.{Layout, Tech, saved_line_count, saved_text}
 use Rattle.mls_session.specs.declared.refusal.Refusal.TheVariants.{Memory}
 use Rattle.mls_session.specs.declared.reply.Reply.{Reply}
 use Rattle.mls_session.specs.declared.reply.Reply.TheVariants.{Done, Kinds, Saved, Count, Why, Refused, Stopped}
@@ -11,11 +9,7 @@ use Rattle.mls_session.specs.declared.reply.Reply.TheVariants.{Done, Kinds, Save
 abbrev pub SavesText : Tech → Layout → Reply → List ℕ → List ℕ → Type 0
 SavesText tech layout (Saved lines) old new = (lines ≡ saved_line_count tech layout) × (new ≡ old ++ saved_text tech layout)
 SavesText tech layout (Refused refusal) old new = (refusal ≡ Memory) × (new ≡ old)
-SavesText tech layout Done old new = ⊥
-SavesText tech layout (Kinds kinds) old new = ⊥
-SavesText tech layout (Count errors pending) old new = ⊥
-SavesText tech layout (Why violated) old new = ⊥
-SavesText tech layout (Stopped refusal pending) old new = ⊥
+SavesText tech layout _ old new = ⊥
 
 -- the fact, if the layout was saved
 abbrev pub OnSaved : Reply → Type 0 → Type 0

@@ -1,13 +1,8 @@
 //! What commands change on several planes.
 ghost use Rattle.std.specs.Prelude.{◌≡◌, ◌≤◌, false, max, length, vec_capacity, IfSome};
-ghost use Rattle.std.specs.List.{All};
-ghost use Rattle.mls_geom.specs.Pictures.{Picture, overlaid};
-ghost use Rattle.mls_library.specs.Libraries.{IsFrozen, most_tiles};
-ghost use Rattle.mls_paint.specs.Planes.{HasStrips, layout_in, picture_in};
-ghost use Rattle.mls_paint.specs.Scratches.{HasRoomFor, KeepsRoom};
+ghost use Rattle.mls_session.specs.Words.{HasRoomFor, HasStrips, IsFrozen, KeepsRoom, Picture, most_tiles, overlaid, picture_in, room_of};
 ghost use Rattle.mls_session.specs.Changes.{dumped, erased, leaves_world};
 ghost use Rattle.mls_session.specs.Inner.{CanChange, HasCapacityFor, changed};
-ghost use Rattle.mls_tilepool.specs.Pools.{room_of};
 
 use crate::moving::moved_rect;
 use mls_geom::{Piece, Rect};

@@ -54,21 +54,14 @@ impl Command {
     pub fn known_after(&self, checked: &Option<Checked>) -> Option<Checked>
         ensures { result ≡ spec.known_after self.now checked.now }
     {
-        if self.leaves_marks() { *checked } else { None }
-    }
-
-    /// Returns whether the command leaves the layout and the marks as they are, whatever its reply.
-    fn leaves_marks(&self) -> bool
-        ensures { result ≡ spec.leaves_marks self.now }
-    {
-        matches!(
-            self,
+        match self {
             Command::Box { .. }
-                | Command::What
-                | Command::Save
-                | Command::Check
-                | Command::Why
-                | Command::Count
-        )
+            | Command::What
+            | Command::Save
+            | Command::Check
+            | Command::Why
+            | Command::Count => *checked,
+            _ => None,
+        }
     }
 }

@@ -1,15 +1,12 @@
 //! One design: a box, the planes of its own paint, its uses, its error plane, and what each command does to them.
 ghost use Rattle.std.specs.Prelude.{◌≡◌, ◌*◌, ◌+◌, ◌≤◌, IfOk, OnErr, length};
-ghost use Rattle.mls_errorplane.specs.DirtyLists.{IsDirtyList};
-ghost use Rattle.mls_paint.specs.Owners.{AddsOwners, RemovesOwners};
-ghost use Rattle.mls_paint.specs.Planes.{layout_in};
+ghost use Rattle.mls_session.specs.Words.{AddsOwners, IsDirtyList, RemovesOwners, layout_in, unreserved};
 ghost use Rattle.mls_session.specs.Designs.{AreAtHome};
 ghost use Rattle.mls_session.specs.Inner.{Counts};
 ghost use Rattle.mls_session.specs.Own.{blank, opening};
 ghost use Rattle.mls_session.specs.OwnSteps.{DesignSteps};
 ghost use Rattle.mls_session.specs.Quotas.{plane_reserve};
 ghost use Rattle.mls_session.specs.Setups.{config_of};
-ghost use Rattle.mls_tilepool.specs.Pools.{unreserved};
 
 mod changing;
 mod checking;
@@ -60,7 +57,7 @@ impl Model for Design {
 }
 
 impl Design {
-    ghost use Rattle.mls_session.specs.Designs.{CanDump, HasRightMarks, IsHome, IsMadeFor, KeepsPlanes, OnRefused, designed_of, owners_of};
+    ghost use Rattle.mls_session.specs.Designs.{HasRightMarks, IsHome, IsMadeFor, IsReady, KeepsPlanes, OnRefused, designed_of, owners_of};
 
     /// Opens a design with no box, no paint, no uses and no marks. Nothing awaits checking, unless the rules forbid
     /// squares of the empty layout.
@@ -113,9 +110,6 @@ impl Design {
 
     /// Carries out a command, or refuses it and changes nothing. Only catching up that stops before its end keeps
     /// what it did.
-    ///
-    /// Only [`Command::Why`] and [`Command::CatchUp`] allocate, for one piece at a time, and [`Command::What`] where
-    /// cells are placed.
     pub fn command(
         &mut self,
         alloc: Global,
@@ -123,9 +117,7 @@ impl Design {
         command: Command,
         workspace: &mut Workspace,
     ) -> Executed
-        requires home { IsHome workspace.old.pool self.old }
-        requires made_for { IsMadeFor setup.now self.old }
-        requires can_dump { CanDump setup.now workspace.old.pool (owners_of self.old) }
+        requires ready { IsReady setup.now workspace.old.pool self.old }
         requires areas { IsDirtyList self.old.errors.dirty }
         ensures step { DesignSteps (config_of setup.now workspace.old.pool)
             (designed_of workspace.old.pool self.old) command result.reply

@@ -1,6 +1,6 @@
 //! The commands of a session, with their replies.
 ghost use Rattle.std.specs.Prelude.{◌≡◌, ◌≢◌, ◌+◌, ◌==◌, ◌≤◌, ◌^◌, ◌<◌, IfOk, [], length, true};
-ghost use Rattle.mls_session.specs.Inner.{after_command, after_note, after_steps};
+ghost use Rattle.mls_session.specs.Inner.{after_command, after_steps};
 ghost use Rattle.mls_session.specs.Journals.{is_memory, is_refusal};
 
 use crate::executed::Executed;
@@ -74,20 +74,13 @@ impl Journal {
         ensures { self.new ≡ after_command self.old command.now executed.now }
     {
         if executed.reply.is_memory() {
-            self.count(executed.steps);
+            self.checks += executed.steps;
             return;
         }
-        self.note(Said {
+        let said = Said {
             command: *command,
             reply: executed.reply,
-        });
-    }
-
-    /// Adds a command and its reply.
-    fn note(&mut self, said: Said)
-        requires room { length self.old.entries ≢ self.old.limit }
-        ensures { self.new ≡ after_note self.old said }
-    {
+        };
         self.entries.push_reserved(Entry {
             checks_before: self.checks,
             said,

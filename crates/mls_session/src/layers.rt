@@ -1,21 +1,9 @@
 //! The strips of a layout's planes, listed one plane after another, and the text of a layout with its marks.
-ghost use Rattle.std.specs.Prelude.{◌≡◌, ◌^◌, ◌≤◌, ◌++◌, IfErr, IfOk, OnErr, OnOk, [], false, true, length};
-ghost use Rattle.std.specs.List.{All};
+ghost use Rattle.std.specs.Prelude.{◌≡◌, ◌^◌, ◌≤◌, ◌++◌, IfErr, IfOk, OnErr, OnOk, [], false, true, length, All};
 ghost use Rattle.std.specs.Option.{option_map_or};
-ghost use Rattle.mls_geom.specs.Layouts.{Layout};
-ghost use Rattle.mls_geom.specs.Pictures.{Picture};
-ghost use Rattle.mls_geom.specs.StripLists.{strips_of};
-ghost use Rattle.mls_geom.specs.World.{world};
-ghost use Rattle.mls_layout.specs.Strips.{IfTooMany};
-ghost use Rattle.mls_layout.specs.Uses.{flat_layout};
-ghost use Rattle.mls_layout.specs.Workspaces.{FitsWorkspace};
-ghost use Rattle.mls_library.specs.Libraries.{IsHome};
-ghost use Rattle.mls_library.specs.MarkedCells.{marked_line_count, marked_text};
-ghost use Rattle.mls_library.specs.SavedCells.{Extends, layers_lines, strips_on, text_of, type_numbers};
+ghost use Rattle.mls_session.specs.Words.{Extends, FitsWorkspace, HasPlane, IfTooMany, IsHome, Layout, Picture, flat_layout, layers_lines, marked_line_count, marked_text, plane_of_type, strips_of, strips_on, text_of, type_numbers, world};
 ghost use Rattle.mls_session.specs.Inner.{ListsPlanes};
 ghost use Rattle.mls_session.specs.Own.{exceeds_tiles};
-ghost use Rattle.mls_stitch.specs.Tilings.{HasPlane};
-ghost use Rattle.mls_tech.specs.Readings.{plane_of_type};
 
 use mls_geom::{Piece, Rect};
 use mls_kinds::Kind;
@@ -29,7 +17,7 @@ use mls_tech::Tech;
 use std::alloc::{AllocError, Global};
 
 /// The lines of each text that are in no section with rectangles: the first two, and the last.
-const OTHER_LINES: usize = 3;
+pub(crate) const OTHER_LINES: usize = 3;
 
 /// Lists the strips of each plane of the layout on these planes with the uses.
 ///
@@ -127,19 +115,6 @@ fn push_marked(
     push_end(out)
 }
 
-/// Returns the number of lines of such a text.
-fn count_marked(tech: &Tech, layers: &[FlatStrips], areas: &[Rect], marks: &[Piece]) -> usize
-    requires count { length layers.now ≡ tech.now.plane_count }
-    requires listed { (layout : Layout) × ListsPlanes layout layers.now }
-    requires marks { (picture : Picture) × (marks.now ≡ strips_of world picture) }
-    requires areas { length areas.now ≤ 65 }
-    ensures { (layout : Layout) (picture : Picture) → ListsPlanes layout layers.now
-        → marks.now ≡ strips_of world picture
-        → result ≡ marked_line_count tech.now layout areas.now picture }
-{
-    OTHER_LINES + dirty_line_count(areas) + mark_line_count(marks) + count_layers(tech, layers)
-}
-
 /// Appends such a text, and returns the number of its lines. Out of memory, appends nothing.
 pub(crate) fn add_marked(
     tech: &Tech,
@@ -165,5 +140,6 @@ pub(crate) fn add_marked(
         out.truncate(len);
         return Err(error);
     }
-    Ok(count_marked(tech, layers, areas, marks))
+    let others = OTHER_LINES + dirty_line_count(areas) + mark_line_count(marks);
+    Ok(others + count_layers(tech, layers))
 }

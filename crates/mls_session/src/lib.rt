@@ -2,7 +2,6 @@
 //! was said.
 #![tactic(auto)]
 
-mod bounds;
 mod change;
 mod command;
 mod design;

@@ -1,6 +1,5 @@
 //! What can be looked up of a session outside its journal.
-ghost use Rattle.std.specs.Prelude.{◌≡◌, ◌<◌, ◌^◌, IfOk, length};
-ghost use Rattle.std.specs.List.{All};
+ghost use Rattle.std.specs.Prelude.{◌≡◌, ◌<◌, ◌^◌, IfOk, length, All};
 ghost use Rattle.mls_paint.specs.Planes.{HasStrips, layout_in};
 ghost use Rattle.mls_session.specs.Looks.{tile_counts};
 

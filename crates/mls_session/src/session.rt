@@ -1,9 +1,7 @@
 //! Sessions: what each command and each check step does to a design, and what the journal keeps of it.
 ghost use Rattle.std.specs.Prelude.{◌≡◌, ◌*◌, ◌+◌, ◌++◌, ◌≤◌, ◌<◌, IfOk, OnErr, List, ℕ, length, vec_capacity, vec_len};
-ghost use Rattle.mls_layout.specs.Uses.{cell_layouts};
+ghost use Rattle.mls_session.specs.Words.{AddsOwners, ReadsAs, RemovesOwners, cell_layouts, saved_text, unreserved};
 ghost use Rattle.mls_library.specs.Libraries as library_spec;
-ghost use Rattle.mls_library.specs.SavedCells.{ReadsAs, saved_text};
-ghost use Rattle.mls_paint.specs.Owners.{AddsOwners, RemovesOwners};
 ghost use Rattle.mls_session.specs.Designs.{HasRightMarks, OnRefused};
 ghost use Rattle.mls_session.specs.Journals.{Commands, IsLegal, Saves, kept_at_opening};
 ghost use Rattle.mls_session.specs.Quotas.{plane_reserve};
@@ -12,7 +10,6 @@ ghost use Rattle.mls_session.specs.Setups.{config_of, terms_of};
 ghost use Rattle.mls_session.specs.OwnSteps.{HaveOwnCells};
 ghost use Rattle.mls_session.specs.declared.refusal.Refusal.TheVariants.{Memory};
 ghost use Rattle.mls_session.specs.declared.reply.Reply.TheVariants.{Refused};
-ghost use Rattle.mls_tilepool.specs.Pools.{unreserved};
 
 mod checking;
 mod looking;
@@ -123,8 +120,9 @@ impl Session {
             return Reply::Refused(Refusal::JournalFull);
         }
         let executed = self.design.command(alloc, setup, command, workspace);
-        // For its contract alone.
-        self.design.has_legal_areas();
+        // For its contract alone: the areas lie in the world, and are few.
+        let design = &self.design;
+        design.errors.areas();
         self.journal.keep(&command, &executed);
         executed.reply
     }

@@ -1,16 +1,13 @@
 //! Commands that change several planes: all of them, or none.
 ghost use Rattle.std.specs.Prelude.{◌≡◌, ◌<◌, ◌≤◌, IsTrue, not, length, ℕ};
-ghost use Rattle.mls_layout.specs.Workspaces.{most_planes};
-ghost use Rattle.mls_paint.specs.Owners.{ChangesAmong};
-ghost use Rattle.mls_paint.specs.Planes.{layout_in};
-ghost use Rattle.mls_session.specs.Inner.{ArePlanned, CanChange, FitsQuota, ListsChange, ReadsAtMost, changed_layout, painted_over, planned_pieces};
+ghost use Rattle.mls_session.specs.Words.{ChangesAmong, layout_in, most_planes};
+ghost use Rattle.mls_session.specs.Inner.{ArePlanned, CanChange, FitsQuota, ListsChange, ReadsAtMost, StepsTo, changed_layout, painted_over, planned_pieces};
 ghost use Rattle.mls_session.specs.Own.{Config, are_types, change_step, edit_step, exceeds_quota};
-ghost use Rattle.mls_session.specs.OwnSteps.{design_step};
 ghost use Rattle.mls_session.specs.Setups.{config_of};
 
 use super::Design;
-use crate::bounds::placed_bounds;
 use crate::change::Change;
+use crate::moving::placed_bounds;
 use crate::{Command, Refusal, Reply, Setup};
 use mls_geom::Rect;
 use mls_kinds::KindSet;
@@ -20,7 +17,7 @@ use mls_paint::{commit, plan};
 use mls_tech::Tech;
 
 impl Design {
-    ghost use Rattle.mls_session.specs.Designs.{CanDump, AreAtHome, IsHome, IsMadeFor, KeepsPlanes, OnRefused, designed_of, drawn_of, owners_of};
+    ghost use Rattle.mls_session.specs.Designs.{AreAtHome, IsHome, IsMadeFor, IsReady, KeepsPlanes, OnRefused, designed_of, drawn_of};
 
     /// Erases types in the box, on each plane.
     #[tactic(auto, unfolding(crate::specs::OwnSteps::design_step))]
@@ -32,9 +29,8 @@ impl Design {
     ) -> Reply
         requires home { IsHome workspace.old.pool self.old }
         requires made_for { IsMadeFor setup.now self.old }
-        ensures step { design_step (config_of setup.now workspace.old.pool)
-            (designed_of workspace.old.pool self.old) (Command.Erase kinds)
-            ≡ (designed_of workspace.new.pool self.new, result) }
+        ensures step { StepsTo setup.now workspace.old.pool workspace.new.pool self.old (Command.Erase kinds)
+            result self.new }
         ensures keeps { KeepsPlanes workspace.old.pool workspace.new.pool self.old self.new }
         ensures refused { OnRefused result ((self.new ≡ self.old) × (workspace.new.pool ≡ workspace.old.pool)) }
     {
@@ -60,12 +56,9 @@ impl Design {
         dy: i32,
         workspace: &mut Workspace,
     ) -> Reply
-        requires home { IsHome workspace.old.pool self.old }
-        requires made_for { IsMadeFor setup.now self.old }
-        requires can_dump { CanDump setup.now workspace.old.pool (owners_of self.old) }
-        ensures step { design_step (config_of setup.now workspace.old.pool)
-            (designed_of workspace.old.pool self.old) (Command.Dump cell dx dy)
-            ≡ (designed_of workspace.new.pool self.new, result) }
+        requires ready { IsReady setup.now workspace.old.pool self.old }
+        ensures step { StepsTo setup.now workspace.old.pool workspace.new.pool self.old (Command.Dump cell dx dy)
+            result self.new }
         ensures keeps { KeepsPlanes workspace.old.pool workspace.new.pool self.old self.new }
         ensures refused { OnRefused result ((self.new ≡ self.old) × (workspace.new.pool ≡ workspace.old.pool)) }
     {
@@ -93,12 +86,9 @@ impl Design {
         dy: i32,
         workspace: &mut Workspace,
     ) -> Reply
-        requires home { IsHome workspace.old.pool self.old }
-        requires made_for { IsMadeFor setup.now self.old }
-        requires can_dump { CanDump setup.now workspace.old.pool (owners_of self.old) }
-        ensures step { design_step (config_of setup.now workspace.old.pool)
-            (designed_of workspace.old.pool self.old) (Command.GetCell cell dx dy)
-            ≡ (designed_of workspace.new.pool self.new, result) }
+        requires ready { IsReady setup.now workspace.old.pool self.old }
+        ensures step { StepsTo setup.now workspace.old.pool workspace.new.pool self.old (Command.GetCell cell dx dy)
+            result self.new }
         ensures keeps { KeepsPlanes workspace.old.pool workspace.new.pool self.old self.new }
         ensures refused { OnRefused result ((self.new ≡ self.old) × (workspace.new.pool ≡ workspace.old.pool)) }
     {

@@ -1,19 +1,10 @@
 //! Commands on what awaits checking, and on the marks.
 ghost use Rattle.std.specs.Prelude.{◌≡◌, ◌<◌, ◌≤◌, IfErr, IfOk, OnOk, length};
-ghost use Rattle.mls_checker.specs.Findings.{violated_rules};
-ghost use Rattle.mls_errorplane.specs.CatchingUp.{Steps};
-ghost use Rattle.mls_errorplane.specs.DirtyLists.{IsDirtyList};
-ghost use Rattle.mls_errorplane.specs.ErrorPlanes.{HasStepped, UnlessDone, checking_of};
-ghost use Rattle.mls_errorplane.specs.Jobs.{HasGrabbed};
-ghost use Rattle.mls_errorplane.specs.Outcomes.{HasFinished, UnlessFinished};
-ghost use Rattle.mls_errorplane.specs.Stretches.{AreRightIn};
-ghost use Rattle.mls_errorplane.specs.Violations.{strip_count, violations_in};
-ghost use Rattle.mls_layout.specs.Strips.{IfTooMany};
-ghost use Rattle.mls_session.specs.Inner.{Counts, KeepsDrawn, caught_up_reply, steps_of};
-ghost use Rattle.mls_session.specs.Own.{count_step, layout_of, dirty_after};
+ghost use Rattle.mls_session.specs.Words.{AreRightIn, HasFinished, HasGrabbed, HasStepped, IfTooMany, IsDirtyList, Pool, Steps, UnlessDone, UnlessFinished, checking_of, strip_count, violated_rules, violations_in};
+ghost use Rattle.mls_session.specs.Inner.{Counts, KeepsDrawn, caught_up_reply, layout_shown, steps_of};
+ghost use Rattle.mls_session.specs.Own.{count_step, dirty_after};
 ghost use Rattle.mls_session.specs.OwnSteps.{DesignSteps, design_step};
 ghost use Rattle.mls_session.specs.Setups.{config_of};
-ghost use Rattle.mls_tilepool.specs.Pools.{Pool};
 
 use super::Design;
 use crate::executed::Executed;
@@ -26,14 +17,7 @@ use mls_layout::{Unlisted, Workspace};
 use std::alloc::{AllocError, Global};
 
 impl Design {
-    ghost use Rattle.mls_session.specs.Designs.{CanDump, IsHome, IsMadeFor, KeepsPlanes, OnRefused, designed_of, drawn_of, owners_of};
-
-    /// The areas that await checking lie in the world, and are few. Does nothing: the contract is the law.
-    pub fn has_legal_areas(&self)
-        ensures { IsDirtyList self.now.errors.dirty }
-    {
-        self.errors.areas();
-    }
+    ghost use Rattle.mls_session.specs.Designs.{IsHome, IsReady, KeepsPlanes, OnRefused, designed_of};
 
     /// Adds the box to the areas that await checking.
     #[tactic(auto, unfolding(crate::specs::OwnSteps::design_step))]
@@ -73,12 +57,10 @@ impl Design {
         setup: &Setup,
         workspace: &mut Workspace,
     ) -> Result<Option<Job>, AllocError>
-        requires home { IsHome workspace.old.pool self.now }
-        requires made_for { IsMadeFor setup.now self.now }
-        requires can_dump { CanDump setup.now workspace.old.pool (owners_of self.now) }
+        requires ready { IsReady setup.now workspace.old.pool self.now }
         ensures grabbed { HasGrabbed setup.now.rules (length self.now.planes)
-            (layout_of (config_of setup.now workspace.old.pool) (drawn_of workspace.old.pool self.now))
-            (checking_of workspace.old.pool self.now.errors) result }
+            (layout_shown setup.now workspace.old.pool self.now) (checking_of workspace.old.pool self.now.errors)
+            result }
         ensures pool { workspace.new.pool ≡ workspace.old.pool }
     {
         let context = setup.context(&self.uses);
@@ -90,13 +72,9 @@ impl Design {
     ///
     /// Unless this is done, nothing changes.
     pub fn step(&mut self, alloc: Global, setup: &Setup, workspace: &mut Workspace) -> Stepped
-        requires home { IsHome workspace.old.pool self.old }
-        requires made_for { IsMadeFor setup.now self.old }
-        requires can_dump { CanDump setup.now workspace.old.pool (owners_of self.old) }
-        ensures stepped { HasStepped setup.now.rules
-            (layout_of (config_of setup.now workspace.old.pool) (drawn_of workspace.old.pool self.old))
-            self.old.quota (checking_of workspace.old.pool self.old.errors) result
-            (checking_of workspace.new.pool self.new.errors) }
+        requires ready { IsReady setup.now workspace.old.pool self.old }
+        ensures stepped { HasStepped setup.now.rules (layout_shown setup.now workspace.old.pool self.old) self.old.quota
+            (checking_of workspace.old.pool self.old.errors) result (checking_of workspace.new.pool self.new.errors) }
         ensures unless_done { UnlessDone result (workspace.new.pool ≡ workspace.old.pool) }
         ensures keeps { KeepsDrawn workspace.old.pool workspace.new.pool self.old self.new }
     {
@@ -110,12 +88,10 @@ impl Design {
     ///
     /// Unless this is finished, nothing changes. No memory is taken.
     pub fn finish(&mut self, setup: &Setup, finding: &Finding, workspace: &mut Workspace) -> Outcome
-        requires home { IsHome workspace.old.pool self.old }
-        requires made_for { IsMadeFor setup.now self.old }
-        requires can_dump { CanDump setup.now workspace.old.pool (owners_of self.old) }
+        requires ready { IsReady setup.now workspace.old.pool self.old }
         ensures finished { HasFinished setup.now.rules (length self.old.planes)
-            (layout_of (config_of setup.now workspace.old.pool) (drawn_of workspace.old.pool self.old))
-            self.old.quota (checking_of workspace.old.pool self.old.errors) finding.now result
+            (layout_shown setup.now workspace.old.pool self.old) self.old.quota
+            (checking_of workspace.old.pool self.old.errors) finding.now result
             (checking_of workspace.new.pool self.new.errors) }
         ensures unless_finished { UnlessFinished result (workspace.new.pool ≡ workspace.old.pool) }
         ensures keeps { KeepsDrawn workspace.old.pool workspace.new.pool self.old self.new }
@@ -128,23 +104,14 @@ impl Design {
     }
 
     /// Takes the next pieces whose marks are known to be right out of the areas that await checking, and returns how
-    /// many.
-    ///
-    /// The marks must be right in the rectangles of `checked`, and are so in those that it has afterwards. No memory is
-    /// taken.
+    /// many. No memory is taken.
     pub fn settle(&mut self, setup: &Setup, checked: &mut Checked, workspace: &mut Workspace) -> u64
-        requires home { IsHome workspace.old.pool self.old }
-        requires made_for { IsMadeFor setup.now self.old }
-        requires can_dump { CanDump setup.now workspace.old.pool (owners_of self.old) }
-        requires right { AreRightIn setup.now.rules
-            (layout_of (config_of setup.now workspace.old.pool) (drawn_of workspace.old.pool self.old))
+        requires ready { IsReady setup.now workspace.old.pool self.old }
+        requires right { AreRightIn setup.now.rules (layout_shown setup.now workspace.old.pool self.old)
             (checking_of workspace.old.pool self.old.errors).marks checked.old }
-        ensures steps { Steps setup.now.rules
-            (layout_of (config_of setup.now workspace.old.pool) (drawn_of workspace.old.pool self.old))
-            self.old.quota result (checking_of workspace.old.pool self.old.errors)
-            (checking_of workspace.new.pool self.new.errors) }
-        ensures right { AreRightIn setup.now.rules
-            (layout_of (config_of setup.now workspace.old.pool) (drawn_of workspace.old.pool self.old))
+        ensures steps { Steps setup.now.rules (layout_shown setup.now workspace.old.pool self.old) self.old.quota result
+            (checking_of workspace.old.pool self.old.errors) (checking_of workspace.new.pool self.new.errors) }
+        ensures right { AreRightIn setup.now.rules (layout_shown setup.now workspace.old.pool self.old)
             (checking_of workspace.new.pool self.new.errors).marks checked.new }
         ensures keeps { KeepsDrawn workspace.old.pool workspace.new.pool self.old self.new }
     {
@@ -157,9 +124,7 @@ impl Design {
 
     /// Checks all areas that await checking, piece by piece.
     pub fn catch_up(&mut self, alloc: Global, setup: &Setup, workspace: &mut Workspace) -> Executed
-        requires home { IsHome workspace.old.pool self.old }
-        requires made_for { IsMadeFor setup.now self.old }
-        requires can_dump { CanDump setup.now workspace.old.pool (owners_of self.old) }
+        requires ready { IsReady setup.now workspace.old.pool self.old }
         requires areas { IsDirtyList self.old.errors.dirty }
         ensures caught { DesignSteps (config_of setup.now workspace.old.pool)
             (designed_of workspace.old.pool self.old) Command.CatchUp result.reply
@@ -178,18 +143,13 @@ impl Design {
             .errors
             .catch_up(alloc, planes, &context, limit, workspace);
         let pending = self.errors.areas();
-        Executed {
-            reply: caught_up_reply(ended, pending),
-            steps: steps_of(ended),
-        }
+        result_of(ended, pending)
     }
 
     /// Returns the rules that forbid some square of the box.
     #[tactic(auto, unfolding(crate::specs::OwnSteps::design_step))]
     pub fn why(&self, alloc: Global, setup: &Setup, workspace: &mut Workspace) -> Reply
-        requires home { IsHome workspace.old.pool self.now }
-        requires made_for { IsMadeFor setup.now self.now }
-        requires can_dump { CanDump setup.now workspace.old.pool (owners_of self.now) }
+        requires ready { IsReady setup.now workspace.old.pool self.now }
         ensures why { DesignSteps (config_of setup.now workspace.old.pool)
             (designed_of workspace.old.pool self.now) Command.Why result (designed_of workspace.old.pool self.now) }
         ensures pool { workspace.new.pool ≡ workspace.old.pool }
@@ -211,12 +171,9 @@ impl Design {
         rect: Rect,
         workspace: &mut Workspace,
     ) -> Result<RuleSet, AllocError>
-        requires home { IsHome workspace.old.pool self.now }
-        requires made_for { IsMadeFor setup.now self.now }
-        requires can_dump { CanDump setup.now workspace.old.pool (owners_of self.now) }
-        ensures value { IfOk result (λ violated. violated
-            ≡ violated_rules setup.now.rules rect (layout_of (config_of setup.now workspace.old.pool)
-            (drawn_of workspace.old.pool self.now))) }
+        requires ready { IsReady setup.now workspace.old.pool self.now }
+        ensures value { IfOk result (λ violated. violated ≡ violated_rules setup.now.rules rect
+            (layout_shown setup.now workspace.old.pool self.now)) }
         ensures pool { workspace.new.pool ≡ workspace.old.pool }
     {
         let context = setup.context(&self.uses);
@@ -233,18 +190,13 @@ impl Design {
         rect: Rect,
         workspace: &mut Workspace,
     ) -> Result<Vec<Violation>, Unlisted>
-        requires home { IsHome workspace.old.pool self.now }
-        requires made_for { IsMadeFor setup.now self.now }
-        requires can_dump { CanDump setup.now workspace.old.pool (owners_of self.now) }
-        ensures value { IfOk result (λ found. found.items
-            ≡ violations_in setup.now.rules rect (layout_of (config_of setup.now workspace.old.pool)
-            (drawn_of workspace.old.pool self.now))) }
+        requires ready { IsReady setup.now workspace.old.pool self.now }
+        ensures value { IfOk result (λ found. found.items ≡ violations_in setup.now.rules rect
+            (layout_shown setup.now workspace.old.pool self.now)) }
         ensures few { OnOk result (strip_count (violations_in setup.now.rules rect
-            (layout_of (config_of setup.now workspace.old.pool) (drawn_of workspace.old.pool self.now)))
-            ≤ setup.now.quota) }
-        ensures too_many { IfErr result (λ fault. IfTooMany fault (setup.now.quota
-            < strip_count (violations_in setup.now.rules rect (layout_of (config_of setup.now workspace.old.pool)
-            (drawn_of workspace.old.pool self.now))))) }
+            (layout_shown setup.now workspace.old.pool self.now)) ≤ setup.now.quota) }
+        ensures too_many { IfErr result (λ fault. IfTooMany fault (setup.now.quota < strip_count (violations_in
+            setup.now.rules rect (layout_shown setup.now workspace.old.pool self.now)))) }
         ensures pool { workspace.new.pool ≡ workspace.old.pool }
     {
         let context = setup.context(&self.uses);
@@ -264,29 +216,21 @@ impl Design {
     }
 }
 
-/// Returns the reply to catching up that ended with this many areas left.
-fn caught_up_reply(ended: CaughtUp, pending: usize) -> Reply
-    ensures { result ≡ caught_up_reply pending ended }
+/// Returns the result of catching up that ended so, with this many areas left.
+fn result_of(ended: CaughtUp, pending: usize) -> Executed
+    ensures reply { result.reply ≡ caught_up_reply pending ended }
+    ensures steps { result.steps ≡ steps_of ended }
 {
     match ended {
-        CaughtUp::Done => Reply::Done,
-        CaughtUp::Full => Reply::Stopped {
-            refusal: Refusal::Quota,
-            pending,
-        },
-        CaughtUp::Memory { .. } => Reply::Stopped {
-            refusal: Refusal::Memory,
-            pending,
-        },
-    }
-}
-
-/// Returns how many check steps were done before memory ran out.
-fn steps_of(ended: CaughtUp) -> u64
-    ensures { result ≡ steps_of ended }
-{
-    match ended {
-        CaughtUp::Done | CaughtUp::Full => 0,
-        CaughtUp::Memory { steps } => steps,
+        CaughtUp::Done => Executed::with(Reply::Done),
+        CaughtUp::Full => {
+            let refusal = Refusal::Quota;
+            Executed::with(Reply::Stopped { refusal, pending })
+        }
+        CaughtUp::Memory { steps } => {
+            let refusal = Refusal::Memory;
+            let reply = Reply::Stopped { refusal, pending };
+            Executed { reply, steps }
+        }
     }
 }

@@ -1,13 +1,8 @@
 //! The text of a design's layout with what is known of the squares that rules forbid there, as a cell file.
 ghost use Rattle.std.specs.Prelude.{◌≡◌, ◌++◌, IfErr, IfOk, OnErr, OnOk, false, true};
-ghost use Rattle.mls_errorplane.specs.ErrorPlanes.{checking_of, marks_picture};
-ghost use Rattle.mls_errorplane.specs.ErrorsIn.{areas_in, squares_in};
-ghost use Rattle.mls_geom.specs.Layouts.{Layout};
-ghost use Rattle.mls_geom.specs.Pictures.{Picture};
-ghost use Rattle.mls_layout.specs.Strips.{IfTooMany};
-ghost use Rattle.mls_library.specs.MarkedCells.{empty_layout, marked_line_count, marked_text};
-ghost use Rattle.mls_library.specs.SavedCells.{HoldsOwnTypes, ReadsAs, saved_text};
-ghost use Rattle.mls_session.specs.Own.{exceeds_listed, layout_of};
+ghost use Rattle.mls_session.specs.Words.{HoldsOwnTypes, IfTooMany, Layout, Picture, ReadsAs, areas_in, checking_of, empty_layout, marked_line_count, marked_text, marks_picture, saved_text, squares_in};
+ghost use Rattle.mls_session.specs.Inner.{layout_shown};
+ghost use Rattle.mls_session.specs.Own.{exceeds_listed};
 ghost use Rattle.mls_session.specs.Setups.{config_of};
 
 use super::Design;
@@ -20,7 +15,7 @@ use mls_tech::Tech;
 use std::alloc::{AllocError, Global};
 
 impl Design {
-    ghost use Rattle.mls_session.specs.Designs.{CanDump, IsHome, IsMadeFor, drawn_of, owners_of};
+    ghost use Rattle.mls_session.specs.Designs.{IsHome, IsReady};
 
     /// Appends the text of the layout, with the areas that await checking and the marks, as a cell file, and returns
     /// the number of its lines.
@@ -34,25 +29,22 @@ impl Design {
         out: &mut Vec<u8>,
         workspace: &mut Workspace,
     ) -> Result<usize, Unlisted>
-        requires home { IsHome workspace.old.pool self.now }
-        requires made_for { IsMadeFor setup.now self.now }
-        requires can_dump { CanDump setup.now workspace.old.pool (owners_of self.now) }
+        requires ready { IsReady setup.now workspace.old.pool self.now }
         ensures count { IfOk result (λ lines. lines ≡ marked_line_count setup.now.tech
-            (layout_of (config_of setup.now workspace.old.pool) (drawn_of workspace.old.pool self.now))
-            self.now.errors.dirty (marks_picture (checking_of workspace.old.pool self.now.errors).marks)) }
+            (layout_shown setup.now workspace.old.pool self.now) self.now.errors.dirty
+            (marks_picture (checking_of workspace.old.pool self.now.errors).marks)) }
         ensures text { OnOk result (out.new.items ≡ out.old.items ++ marked_text setup.now.tech
-            (layout_of (config_of setup.now workspace.old.pool) (drawn_of workspace.old.pool self.now))
-            self.now.errors.dirty (marks_picture (checking_of workspace.old.pool self.now.errors).marks)) }
+            (layout_shown setup.now workspace.old.pool self.now) self.now.errors.dirty
+            (marks_picture (checking_of workspace.old.pool self.now.errors).marks)) }
         ensures few { OnOk result (exceeds_listed (config_of setup.now workspace.old.pool)
-            (layout_of (config_of setup.now workspace.old.pool) (drawn_of workspace.old.pool self.now)) ≡ false) }
-        ensures too_many { IfErr result (λ fault. IfTooMany fault
-            (exceeds_listed (config_of setup.now workspace.old.pool)
-            (layout_of (config_of setup.now workspace.old.pool) (drawn_of workspace.old.pool self.now)) ≡ true)) }
+            (layout_shown setup.now workspace.old.pool self.now) ≡ false) }
+        ensures too_many { IfErr result (λ fault. IfTooMany fault (exceeds_listed
+            (config_of setup.now workspace.old.pool) (layout_shown setup.now workspace.old.pool self.now) ≡ true)) }
         ensures refused { OnErr result (out.new.items ≡ out.old.items) }
         ensures pool { workspace.new.pool ≡ workspace.old.pool }
     {
         // For its contract alone: the areas are few.
-        self.has_legal_areas();
+        self.errors.areas();
         let most = most_flat_tiles(self.quota.get(), setup.cell_tiles);
         let context = setup.context(&self.uses);
         let layers = list_layers(alloc, &self.planes, &context.uses, most, workspace)?;
@@ -85,7 +77,7 @@ impl Design {
         ensures pool { workspace.new.pool ≡ workspace.old.pool }
     {
         // For its contract alone: the areas are few.
-        self.has_legal_areas();
+        self.errors.areas();
         let areas = self.errors.areas_in(alloc, rect)?;
         let marks = self.errors.marks_in(alloc, rect, workspace)?;
         let len = out.len();
@@ -111,6 +103,6 @@ impl Design {
         // For their contracts alone: the names are words, and the areas lie in the world.
         tech.types();
         tech.name();
-        self.has_legal_areas();
+        self.errors.areas();
     }
 }

@@ -1,14 +1,11 @@
 //! Commands on the box.
-ghost use Rattle.std.specs.Prelude.{◌≡◌, [], IfOk, IsOk, None, length};
-ghost use Rattle.std.specs.List.{All};
-ghost use Rattle.mls_layout.specs.Uses.{flat_layout};
-ghost use Rattle.mls_layout.specs.Workspaces.{FitsWorkspace};
+ghost use Rattle.std.specs.Prelude.{◌≡◌, [], IfOk, IsOk, None, length, All};
+ghost use Rattle.mls_session.specs.Words.{FitsWorkspace, HasPlane, Pool, flat_layout};
 ghost use Rattle.mls_library.specs.Libraries.{IsHome as AreCellsHome};
 ghost use Rattle.mls_session.specs.Own.{Config, box_step, edit_step, types_in};
-ghost use Rattle.mls_session.specs.OwnSteps.{DesignSteps, design_step};
+ghost use Rattle.mls_session.specs.Inner.{StepsTo};
+ghost use Rattle.mls_session.specs.OwnSteps.{DesignSteps};
 ghost use Rattle.mls_session.specs.Setups.{config_of};
-ghost use Rattle.mls_stitch.specs.Tilings.{HasPlane};
-ghost use Rattle.mls_tilepool.specs.Pools.{Pool};
 
 use super::Design;
 use crate::{Command, Refusal, Reply, Setup};
@@ -20,7 +17,7 @@ use mls_stitch::Plane;
 use std::alloc::{AllocError, Global};
 
 impl Design {
-    ghost use Rattle.mls_session.specs.Designs.{CanDump, IsHome, IsMadeFor, KeepsPlanes, OnRefused, designed_of, drawn_of, owners_of};
+    ghost use Rattle.mls_session.specs.Designs.{IsHome, IsMadeFor, IsReady, KeepsPlanes, OnRefused, designed_of, drawn_of};
 
     /// Sets the box, or refuses it by the fault of its lines.
     pub fn set_box(&mut self, made: Result<Rect, RectFault>) -> Reply
@@ -48,9 +45,8 @@ impl Design {
     pub fn paint(&mut self, setup: &Setup, kind: Option<Kind>, workspace: &mut Workspace) -> Reply
         requires home { IsHome workspace.old.pool self.old }
         requires made_for { IsMadeFor setup.now self.old }
-        ensures step { design_step (config_of setup.now workspace.old.pool)
-            (designed_of workspace.old.pool self.old) (Command.Paint kind)
-            ≡ (designed_of workspace.new.pool self.new, result) }
+        ensures step { StepsTo setup.now workspace.old.pool workspace.new.pool self.old (Command.Paint kind)
+            result self.new }
         ensures keeps { KeepsPlanes workspace.old.pool workspace.new.pool self.old self.new }
         ensures refused { OnRefused result ((self.new ≡ self.old) × (workspace.new.pool ≡ workspace.old.pool)) }
     {
@@ -85,9 +81,7 @@ impl Design {
     /// Runs out of memory only where cells are placed.
     #[tactic(auto, unfolding(crate::specs::OwnSteps::design_step))]
     pub fn what(&self, alloc: Global, setup: &Setup, workspace: &mut Workspace) -> Reply
-        requires home { IsHome workspace.old.pool self.now }
-        requires made_for { IsMadeFor setup.now self.now }
-        requires can_dump { CanDump setup.now workspace.old.pool (owners_of self.now) }
+        requires ready { IsReady setup.now workspace.old.pool self.now }
         ensures step { DesignSteps (config_of setup.now workspace.old.pool)
             (designed_of workspace.old.pool self.now) Command.What result (designed_of workspace.old.pool self.now) }
         ensures pool { workspace.new.pool ≡ workspace.old.pool }

@@ -5,15 +5,13 @@ ghost use Rattle.mls_session.specs.Inner.{IsListing, IsSection};
 ghost use Rattle.mls_session.specs.Saving.{SavesText};
 
 use super::Design;
+use crate::layers::OTHER_LINES;
 use crate::{Refusal, Reply};
 use mls_kinds::{Kind, PlaneNumber};
 use mls_layout::Workspace;
 use mls_library::{layer_line_count, push_end, push_header, push_layer};
 use mls_tech::Tech;
 use std::alloc::AllocError;
-
-/// The lines of each saved text that are in no type's section: the first two, and the last.
-const OTHER_LINES: usize = 3;
 
 impl Design {
     ghost use Rattle.mls_session.specs.Designs.{IsHome, OnRefused, drawn_of};

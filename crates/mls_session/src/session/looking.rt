@@ -1,13 +1,12 @@
 //! Looks at a session.
-ghost use Rattle.std.specs.Prelude.{◌≡◌, ◌+◌, ◌++◌, ◌<◌, ◌⊎◌, [], IfOk, List, length, vec_capacity, vec_len, ℕ};
-ghost use Rattle.mls_library.specs.SavedCells.{saved_text};
+ghost use Rattle.std.specs.Prelude.{◌≡◌, ◌+◌, ◌++◌, ◌<◌, ◌⊎◌, [], List, length, vec_capacity, vec_len, ℕ};
+ghost use Rattle.mls_session.specs.Words.{Pool, saved_text};
 ghost use Rattle.mls_session.specs.Looks as spec;
-ghost use Rattle.mls_session.specs.Looks.{ErrorsReadBack, IsRect, Looks, MarksReadBack, OnMarks, ViolationsAreMarks, errors_of, status_of, violations_of, why_in};
+ghost use Rattle.mls_session.specs.Looks.{ErrorsReadBack, IsRect, Looks, MarksReadBack, OnMarks, ViolationsAreMarks, errors_of, violations_of, why_in};
 ghost use Rattle.mls_session.specs.Own.{layout_of};
 ghost use Rattle.mls_session.specs.Journals.{IsLegal};
 ghost use Rattle.mls_session.specs.OwnSteps.{Terms};
 ghost use Rattle.mls_session.specs.Setups.{config_of, terms_of};
-ghost use Rattle.mls_tilepool.specs.Pools.{Pool};
 
 use super::Session;
 use crate::look::tile_counts;
@@ -15,7 +14,7 @@ use crate::{JournalCopy, Listing, Look, Looked, Refusal, Setup, Status};
 use mls_geom::{Rect, RectFault};
 use mls_layout::{Unlisted, Workspace};
 use mls_tilepool::Pool;
-use std::alloc::{AllocError, Global};
+use std::alloc::Global;
 
 impl Session {
     ghost use Rattle.mls_session.specs.Sessions.{IsHome, IsMadeFor, IsReady, kept_of, state_of};
@@ -149,22 +148,11 @@ impl Session {
         requires made_for { IsMadeFor setup.now self.now }
         ensures { Looks (terms_of setup.now pool.now) (kept_of pool.now self.now) Look.Status result [] }
     {
-        match self.status(alloc, setup, pool) {
-            Ok(status) => Looked::Status(status),
-            Err(_) => Looked::Refused(Refusal::Memory),
-        }
-    }
-
-    /// Returns how far the session has come, and how many tiles its planes have.
-    fn status(&self, alloc: Global, setup: &Setup, pool: &Pool) -> Result<Status, AllocError>
-        requires home { IsHome pool.now self.now }
-        requires made_for { IsMadeFor setup.now self.now }
-        ensures { IfOk result (λ status. status
-            ≡ status_of (terms_of setup.now pool.now) (kept_of pool.now self.now)) }
-    {
-        let tiles = tile_counts(alloc, pool, &self.design.planes)?;
+        let Ok(tiles) = tile_counts(alloc, pool, &self.design.planes) else {
+            return Looked::Refused(Refusal::Memory);
+        };
         let errors = &self.design.errors;
-        Ok(Status {
+        Looked::Status(Status {
             entries: self.journal.entries().len(),
             limit: setup.limit.get() as usize,
             steps: self.journal.checks,

@@ -1,14 +1,9 @@
 -- Each turn makes a piece for a tile that isn't space.
-use Rattle.std.proofs.Common.{◌≡◌, ◌≢◌, ◌==◌, ℕ, Bool, true, false, not, to_z, of_z, w32, ap, subst, sym, ◌∙◌, arith}
+use Rattle.std.proofs.Common.{◌≡◌, ◌≢◌, ◌==◌, ℕ, Bool, true, false, not, to_z, of_z, w32, ap, subst, sym, ◌∙◌, arith, take_all}
 use Rattle.std.proofs.lemmas.Bool.Decides.{nat_tests}
 use Rattle.std.proofs.lemmas.Int.{to_z-of_z}
-use Rattle.std.proofs.lemmas.List.{take_all}
-use Rattle.mls_geom.specs.World.{world}
-use Rattle.mls_tilepool.specs.Pools.{tiles_of}
-use Rattle.mls_stitch.specs.Areas.{AreInArea}
-use Rattle.mls_stitch.specs.Tilings.{block_at, shown}
+use Rattle.mls_session.specs.Words.{AreInArea, block_at, moved_picture, shown, tiles_of, world}
 use Rattle.mls_stitch.proofs.ShownTiles.{KeysDiffer-tiles_of}
-use Rattle.mls_layout.specs.Moves.{moved_picture}
 use Rattle.mls_session.proofs.MovedTiles.{dumps, dumps-space, few-dumped, holds-moved, kind-dumps, legal_there, moved_rect-some, overlaid-dumps}
 use Rattle.mls_session.proofs.TilePieces.{ArePatches, ArePatches-left, ArePatches-made}
 use Rattle.mls_session.proofs.change.list_dumped.Goals as goal

@@ -1,6 +1,5 @@
 use Rattle.std.proofs.Common.{◌≡◌, take, vec_capacity}
-use Rattle.mls_paint.specs.Planes.{picture_in}
-use Rattle.mls_layout.specs.Moves.{moved_picture}
+use Rattle.mls_session.specs.Words.{moved_picture, picture_in}
 use Rattle.mls_session.proofs.MovedTiles.{dumps}
 use Rattle.mls_session.proofs.TilePieces.{ArePatches}
 use Rattle.mls_session.proofs.change.list_dumped.Given as goal

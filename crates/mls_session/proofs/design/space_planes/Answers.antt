@@ -1,10 +1,6 @@
 -- Each turn adds a plane of space.
 use Rattle.std.proofs.Common.{◌≡◌, ◌+◌, ◌*◌, length, sym, subst, ◌∙◌, arith}
-use Rattle.mls_tilepool.specs.Pools.{unreserved}
-use Rattle.mls_paint.specs.Owners.{AddsOwners}
-use Rattle.mls_paint.specs.Planes.{AddsOwner}
-use Rattle.mls_session.specs.Designs.{AreAtHome}
-use Rattle.mls_session.specs.Quotas.{plane_reserve}
+use Rattle.mls_session.proofs.Words.{AddsOwner, AddsOwners, AreAtHome, plane_reserve, unreserved}
 use Rattle.mls_session.proofs.HomePlanes.{AreAtHome-push, differ_from_new}
 use Rattle.mls_session.proofs.Openings.{AddsOwners-plane, AreSpace, AreSpace-push, layout_in-blank}
 use Rattle.mls_session.proofs.design.space_planes.Goals as goal

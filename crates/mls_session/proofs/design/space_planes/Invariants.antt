@@ -1,7 +1,5 @@
 use Rattle.std.proofs.Common.{◌≡◌, ◌*◌, length, vec_capacity}
-use Rattle.mls_paint.specs.Owners.{AddsOwners}
-use Rattle.mls_session.specs.Designs.{AreAtHome}
-use Rattle.mls_session.specs.Quotas.{plane_reserve}
+use Rattle.mls_session.proofs.Words.{AddsOwners, AreAtHome, plane_reserve}
 use Rattle.mls_session.proofs.Openings.{AreSpace}
 use Rattle.mls_session.proofs.design.space_planes.Given as goal
 

@@ -1,6 +1,5 @@
 -- Each turn appends the section of one type more.
-use Rattle.std.proofs.Common.{◌++◌, [], sym, ap, ◌∙◌, arith}
-use Rattle.std.proofs.lemmas.List.{append-nil}
+use Rattle.std.proofs.Common.{◌++◌, [], sym, ap, ◌∙◌, arith, append-nil}
 use Rattle.mls_library.specs.SavedCells.{layer_lines, text_of}
 use Rattle.mls_library.proofs.SavedTexts.{Extends-appended, Extends-trans}
 use Rattle.mls_session.proofs.ListedLayers.{strips_at, text_before-first, text_before-next}

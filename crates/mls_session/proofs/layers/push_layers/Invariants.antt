@@ -1,7 +1,5 @@
 use Rattle.std.proofs.Common.{◌≡◌, ◌≤◌, ◌++◌}
-use Rattle.mls_geom.specs.Layouts.{Layout}
-use Rattle.mls_library.specs.SavedCells.{Extends, text_of}
-use Rattle.mls_session.specs.Inner.{ListsPlanes}
+use Rattle.mls_session.proofs.Words.{Extends, Layout, ListsPlanes, text_of}
 use Rattle.mls_session.proofs.ListedLayers.{lines_before}
 use Rattle.mls_session.proofs.layers.push_layers.Given as goal
 

@@ -1,7 +1,6 @@
 -- A sum that overflows is a line outside the world, and so is the greatest or the least number in its place.
-use Rattle.std.proofs.Common.{rules}
+use Rattle.std.proofs.Common.{rules, FitsSigned}
 use Rattle.std.specs.Int.{w32}
-use Rattle.std.specs.Prelude.{FitsSigned}
 use Rattle.std.proofs.lemmas.Int.{to_z-of_z}
 use Rattle.mls_session.proofs.MovedRects.{alike-moved, moved_rect-saturated}
 use Rattle.mls_session.proofs.moving.moved_rect.Goals as goal

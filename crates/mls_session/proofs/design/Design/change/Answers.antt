@@ -1,12 +1,6 @@
 -- No plane is changed unless each would fit.
 use Rattle.std.proofs.Common.{◌≡◌, length, refl, sym, ap, ◌∙◌, arith}
-use Rattle.mls_tilepool.specs.Pools.{Pool}
-use Rattle.mls_paint.specs.Planes.{layout_in}
-use Rattle.mls_errorplane.specs.ErrorPlanes.{checking_of}
-use Rattle.mls_session.specs.Inner.{FitsQuota, changed_layout, planned_pieces}
-use Rattle.mls_session.specs.Own.{change_step, dirty_after}
-use Rattle.mls_session.specs.Designs.{Design, designed_of, drawn_of}
-use Rattle.mls_session.specs.Setups.{config_of}
+use Rattle.mls_session.proofs.Words.{Design, FitsQuota, Pool, Quota, change_step, changed_layout, checking_of, config_of, designed_of, dirty_after, drawn_of, layout_in, planned_pieces}
 use Rattle.mls_session.proofs.ChangedPlanes.{layout_in-changed}
 use Rattle.mls_session.proofs.ChangedQuotas.{FitsQuota-tested, change_step-Refused}
 use Rattle.mls_session.proofs.CommandSteps.{edit_step-Refused}
@@ -14,7 +8,6 @@ use Rattle.mls_session.proofs.EditedDesigns.{change-Done}
 use Rattle.mls_session.proofs.ErrorPlanes.{KeepsPlanes-layout, KeepsPlanes-same}
 use Rattle.mls_session.proofs.ListedPieces.{FitsQuota-listed}
 use Rattle.mls_session.specs.declared.reply.Reply.TheVariants.{Done, Refused}
-use Rattle.mls_session.specs.declared.refusal.Refusal.TheVariants.{Quota}
 use Rattle.mls_session.proofs.design.Design.change.Goals as goal
 
 pub returns-then-not-plan_change-clause-step : goal.returns-then-not-plan_change-clause-step

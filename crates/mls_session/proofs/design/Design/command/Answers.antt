@@ -1,6 +1,5 @@
 use Rattle.std.proofs.Common.{inl, refl, rules, ◌∙◌}
-use Rattle.mls_session.specs.OwnSteps.{design_step}
-use Rattle.mls_session.specs.Setups.{config_of}
+use Rattle.mls_session.proofs.Words.{config_of, design_step}
 use Rattle.mls_session.proofs.MovedRects.{rect_of-fits}
 use Rattle.mls_session.proofs.design.Design.command.Goals as goal
 
@@ -17,4 +16,4 @@ returns-in-Save-clause-step c = rw (c.in-Save.is, c.with-in-Save.ensures.reply, 
 
 pub returns-in-Count-clause-step : goal.returns-in-Count-clause-step
 unfolding design_step
-returns-in-Count-clause-step c = rw (c.in-Count.is, c.with-in-Count.ensures.reply) (inl (c.count.ensures c.args.workspace.now.pool c.requires.home))
+returns-in-Count-clause-step c = rw (c.in-Count.is, c.with-in-Count.ensures.reply) (inl (c.count.ensures c.args.workspace.now.pool c.requires.ready.home))

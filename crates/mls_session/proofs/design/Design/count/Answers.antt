@@ -1,8 +1,5 @@
 use Rattle.std.proofs.Common.{ℕ, ap, ◌∙◌, sym, length}
-use Rattle.mls_session.specs.Own.{Designed, total_marks}
-use Rattle.mls_errorplane.specs.MarkPlanes.{marked_count}
-use Rattle.mls_session.specs.Designs.{Design, designed_of}
-use Rattle.mls_session.specs.declared.reply.Reply.{Reply}
+use Rattle.mls_session.proofs.Words.{Design, Designed, Reply, designed_of, marked_count, total_marks}
 use Rattle.mls_session.specs.declared.reply.Reply.TheVariants.{Count}
 use Rattle.mls_session.proofs.design.Design.count.Goals as goal
 

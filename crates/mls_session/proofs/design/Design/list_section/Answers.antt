@@ -1,10 +1,6 @@
 -- The strips that are listed are those of the type's plane.
-use Rattle.std.proofs.Common.{length, ap, subst, ◌∙◌}
-use Rattle.std.specs.Prelude.{IfSome}
-use Rattle.mls_library.specs.SavedCells.{layer_lines}
-use Rattle.mls_paint.specs.Planes.{layout_in}
-use Rattle.mls_tilepool.specs.Pools.{Pool}
-use Rattle.mls_session.specs.Inner.{IsSection, ListsPlane}
+use Rattle.std.proofs.Common.{length, ap, subst, ◌∙◌, IfSome}
+use Rattle.mls_session.proofs.Words.{IsSection, ListsPlane, Pool, layer_lines, layout_in}
 use Rattle.mls_session.proofs.SavedPlanes.{section-few, section_of}
 use Rattle.mls_session.proofs.design.Design.list_section.Goals as goal
 

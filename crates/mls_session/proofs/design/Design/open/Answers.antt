@@ -1,16 +1,5 @@
 use Rattle.std.proofs.Common.{◌≡◌, ◌+◌, ℕ, List, None, refl, ap, ◌∙◌, sym, subst, arith}
-use Rattle.mls_geom.specs.Layouts.{Layout}
-use Rattle.mls_geom.specs.Rects.{Rect}
-use Rattle.mls_checker.specs.Marking.{no_squares}
-use Rattle.mls_tilepool.specs.Pools.{unreserved}
-use Rattle.mls_paint.specs.Planes.{AddsOwner}
-use Rattle.mls_errorplane.specs.Checkings.{Checking, opening_checking}
-use Rattle.mls_errorplane.specs.ErrorPlanes.{checking_of}
-use Rattle.mls_layout.specs.declared.uses.CellUse.{CellUse}
-use Rattle.mls_session.specs.Own.{Designed, blank, opening}
-use Rattle.mls_session.specs.Designs.{Design, HasRightMarks, designed_of}
-use Rattle.mls_session.specs.Quotas.{plane_reserve}
-use Rattle.mls_session.specs.Setups.{config_of}
+use Rattle.mls_session.proofs.Words.{AddsOwner, CellUse, Checking, Design, Designed, HasRightMarks, Layout, Rect, blank, checking_of, config_of, designed_of, no_squares, opening, opening_checking, plane_reserve, unreserved}
 use Rattle.mls_session.proofs.ErrorPlanes.{IsHome-added, differs, layout-added}
 use Rattle.mls_session.proofs.Openings.{AddsOwners-plane, HasRightMarks-opening}
 use Rattle.mls_session.proofs.design.Design.open.Goals as goal

@@ -1,19 +1,8 @@
 -- The plane's tiles show the box, and all else is at home as before.
 use Rattle.std.proofs.Common.{ℕ, ◌<◌, ◌∷◌, ◌++◌, List, [], Some, set, length, get_or, refl, ap, sym, ◌∙◌, arith}
 use Rattle.std.proofs.lemmas.Bool.{false≢true}
-use Rattle.mls_geom.specs.Pictures.{overlaid}
-use Rattle.mls_geom.specs.TileCounts.{tile_count}
-use Rattle.mls_geom.specs.World.{world}
-use Rattle.mls_geom.specs.declared.piece.Piece.{Piece}
-use Rattle.mls_tilepool.specs.Pools.{Pool}
-use Rattle.mls_paint.specs.Planes.{picture_in}
+use Rattle.mls_session.proofs.Words.{Design, Piece, Pool, Quota, checking_of, config_of, design_step, designed_of, dirty_after, drawn_of, overlaid, paint_step, picture_in, tile_count, world}
 use Rattle.mls_paint.proofs.OwnerFrames.{ChangesAmong-ChangesOnly}
-use Rattle.mls_errorplane.specs.ErrorPlanes.{checking_of}
-use Rattle.mls_session.specs.Designs.{Design, designed_of, drawn_of}
-use Rattle.mls_session.specs.Own.{paint_step, dirty_after}
-use Rattle.mls_session.specs.OwnSteps.{design_step}
-use Rattle.mls_session.specs.Setups.{config_of}
-use Rattle.mls_session.specs.declared.refusal.Refusal.TheVariants.{Quota}
 use Rattle.mls_session.specs.declared.reply.Reply.TheVariants.{Done, Refused}
 use Rattle.mls_session.proofs.CommandSteps.{edit_step-Refused}
 use Rattle.mls_session.proofs.EditedDesigns.{paint-Done}

@@ -2,13 +2,7 @@
 use Rattle.std.proofs.Common.{◌≡◌, ◌≢◌, ◌||◌, ◌<◌, ℕ, get_or, length, refl, sym, ap, subst, ◌∙◌, arith}
 use Rattle.std.proofs.lemmas.Bool.{false≢true}
 use Rattle.std.proofs.lemmas.List.{get_or_default}
-use Rattle.mls_geom.specs.Pictures.{overlaid}
-use Rattle.mls_tilepool.specs.Pools.{Pool}
-use Rattle.mls_paint.specs.Planes.{layout_in, picture_in}
-use Rattle.mls_paint.specs.Plans.{IsPlanFor, no_plan}
-use Rattle.mls_paint.specs.Scratches.{plan_of}
-use Rattle.mls_session.specs.Inner.{ArePlanned, CanChange, ListsChange, changed_layout, planned_pieces}
-use Rattle.mls_session.specs.Designs.{Design}
+use Rattle.mls_session.proofs.Words.{ArePlanned, CanChange, Design, IsPlanFor, ListsChange, Pool, changed_layout, layout_in, no_plan, overlaid, picture_in, plan_of, planned_pieces}
 use Rattle.mls_session.proofs.ChangedQuotas.{exceeds, exceeds-fits, exceeds-more, exceeds_quota-more, exceeds_quota-none}
 use Rattle.mls_library.proofs.FirstPlanes.{any_more}
 use Rattle.mls_session.proofs.HomePlanes.{HasStrips-lent}

@@ -1,18 +1,15 @@
 use Rattle.std.proofs.Common.{◌∙◌}
-use Rattle.mls_errorplane.specs.CatchingUp.{Steps}
-use Rattle.mls_errorplane.specs.ErrorPlanes.{checking_of}
-use Rattle.mls_errorplane.specs.Stretches.{AreRightIn}
-use Rattle.mls_layout.specs.Uses.{flat_layout}
+use Rattle.mls_session.specs.Words.{AreRightIn, Steps, checking_of, flat_layout}
 use Rattle.mls_session.proofs.LentDesigns.{HasLayout-lent, KeepsDrawn-returned, StandsApart-lent, said_of-lent}
 use Rattle.mls_session.proofs.design.Design.settle.Goals as goal
 
 pub settle-requires-clause-layout : goal.settle-requires-clause-layout
 settle-requires-clause-layout c =
-    HasLayout-lent c.args.setup.now c.args.workspace.now.pool c.self.inside c.args.self.now c.self.view_is c.requires.home c.self.invariant.0 c.context-context.result.uses.library.now c.context-context.ensures.library c.deref-2.result.now c.deref-2.ensures.value c.requires.can_dump c.requires.made_for
+    HasLayout-lent c.args.setup.now c.args.workspace.now.pool c.self.inside c.args.self.now c.self.view_is c.requires.ready.home c.self.invariant.0 c.context-context.result.uses.library.now c.context-context.ensures.library c.deref-2.result.now c.deref-2.ensures.value c.requires.ready.can_dump c.requires.ready.made_for
 
 pub settle-requires-clause-apart : goal.settle-requires-clause-apart
 settle-requires-clause-apart c =
-    StandsApart-lent c.args.setup.now c.args.workspace.now.pool c.self.inside c.args.self.now c.self.view_is c.requires.home c.self.invariant.0 c.context-context.result.uses.library.now c.context-context.ensures.library c.deref-2.result.now c.deref-2.ensures.value c.requires.can_dump
+    StandsApart-lent c.args.setup.now c.args.workspace.now.pool c.self.inside c.args.self.now c.self.view_is c.requires.ready.home c.self.invariant.0 c.context-context.result.uses.library.now c.context-context.ensures.library c.deref-2.result.now c.deref-2.ensures.value c.requires.ready.can_dump
 
 pub settle-requires-clause-right : goal.settle-requires-clause-right
 settle-requires-clause-right c =
@@ -34,4 +31,4 @@ returns-clause-right c =
 
 pub returns-clause-keeps : goal.returns-clause-keeps
 returns-clause-keeps c =
-    KeepsDrawn-returned c.args.workspace.now.pool c.settle.new.workspace.pool c.self.inside c.args.self.now c.self.view_is c.settle.new.self c.requires.home c.settle.ensures.only c.settle.ensures.marks c.settle.ensures.owner
+    KeepsDrawn-returned c.args.workspace.now.pool c.settle.new.workspace.pool c.self.inside c.args.self.now c.self.view_is c.settle.new.self c.requires.ready.home c.settle.ensures.only c.settle.ensures.marks c.settle.ensures.owner

@@ -5,7 +5,7 @@ use Rattle.mls_session.proofs.design.Design.step.Goals as goal
 
 pub step-requires-clause-layout : goal.step-requires-clause-layout
 step-requires-clause-layout c =
-    HasLayout-lent c.args.setup.now c.args.workspace.now.pool c.self.inside c.args.self.now c.self.view_is c.requires.home c.self.invariant.0 c.context-context.result.uses.library.now c.context-context.ensures.library c.deref-2.result.now c.deref-2.ensures.value c.requires.can_dump c.requires.made_for
+    HasLayout-lent c.args.setup.now c.args.workspace.now.pool c.self.inside c.args.self.now c.self.view_is c.requires.ready.home c.self.invariant.0 c.context-context.result.uses.library.now c.context-context.ensures.library c.deref-2.result.now c.deref-2.ensures.value c.requires.ready.can_dump c.requires.ready.made_for
 
 pub returns-clause-stepped : goal.returns-clause-stepped
 returns-clause-stepped c =
@@ -15,4 +15,4 @@ returns-clause-stepped c =
 
 pub returns-clause-keeps : goal.returns-clause-keeps
 returns-clause-keeps c =
-    KeepsDrawn-returned c.args.workspace.now.pool c.step.new.workspace.pool c.self.inside c.args.self.now c.self.view_is c.step.new.self c.requires.home c.step.ensures.only c.step.ensures.marks c.step.ensures.owner
+    KeepsDrawn-returned c.args.workspace.now.pool c.step.new.workspace.pool c.self.inside c.args.self.now c.self.view_is c.step.new.self c.requires.ready.home c.step.ensures.only c.step.ensures.marks c.step.ensures.owner

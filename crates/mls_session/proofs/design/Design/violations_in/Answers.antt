@@ -1,13 +1,11 @@
 use Rattle.std.proofs.Common.{ℕ, IfErr, IfOk, OnOk, ◌≡◌, ◌<◌, ◌≤◌, refl, subst, ◌∙◌}
-use Rattle.mls_errorplane.specs.Violations.{strip_count, violations_in}
-use Rattle.mls_layout.specs.Strips.{IfTooMany}
-use Rattle.mls_layout.specs.Uses.{flat_layout}
+use Rattle.mls_session.specs.Words.{IfTooMany, flat_layout, strip_count, violations_in}
 use Rattle.mls_session.proofs.LentDesigns.{HasLayout-lent, said_of-lent}
 use Rattle.mls_session.proofs.design.Design.violations_in.Goals as goal
 
 pub violations-requires : goal.violations-requires
 violations-requires c = record {
-  layout = HasLayout-lent c.args.setup.now c.args.workspace.now.pool c.self.inside c.args.self.now c.self.view_is c.requires.home c.self.invariant.0 c.context-context.result.uses.library.now c.context-context.ensures.library c.deref-2.result.now c.deref-2.ensures.value c.requires.can_dump c.requires.made_for;
+  layout = HasLayout-lent c.args.setup.now c.args.workspace.now.pool c.self.inside c.args.self.now c.self.view_is c.requires.ready.home c.self.invariant.0 c.context-context.result.uses.library.now c.context-context.ensures.library c.deref-2.result.now c.deref-2.ensures.value c.requires.ready.can_dump c.requires.ready.made_for;
 }
 
 pub returns-clause-value : goal.returns-clause-value

@@ -5,7 +5,7 @@ use Rattle.mls_session.proofs.design.Design.why_in.Goals as goal
 
 pub why-requires : goal.why-requires
 why-requires c = record {
-  layout = HasLayout-lent c.args.setup.now c.args.workspace.now.pool c.self.inside c.args.self.now c.self.view_is c.requires.home c.self.invariant.0 c.context-context.result.uses.library.now c.context-context.ensures.library c.deref-2.result.now c.deref-2.ensures.value c.requires.can_dump c.requires.made_for;
+  layout = HasLayout-lent c.args.setup.now c.args.workspace.now.pool c.self.inside c.args.self.now c.self.view_is c.requires.ready.home c.self.invariant.0 c.context-context.result.uses.library.now c.context-context.ensures.library c.deref-2.result.now c.deref-2.ensures.value c.requires.ready.can_dump c.requires.ready.made_for;
 }
 
 pub returns-clause-value : goal.returns-clause-value

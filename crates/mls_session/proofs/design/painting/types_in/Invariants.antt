@@ -1,6 +1,5 @@
 use Rattle.std.proofs.Common.{◌≡◌}
-use Rattle.mls_layout.specs.Uses.{flat_layout}
-use Rattle.mls_session.specs.Own.{types_in}
+use Rattle.mls_session.proofs.Words.{flat_layout, types_in}
 use Rattle.mls_session.proofs.design.painting.types_in.Given as goal
 
 -- the types on the first planes

@@ -1,10 +1,7 @@
 use Rattle.std.proofs.Common.{inl, length, eqb-true, ap, sym, subst, ◌∙◌}
 use Rattle.std.proofs.lemmas.Bool.{eqb-false}
-use Rattle.mls_paint.specs.Owners.{ChangesAmong}
-use Rattle.mls_session.specs.Designs.{HasRightMarks, designed_of}
-use Rattle.mls_session.specs.Inner.{IsCounted, Journal}
+use Rattle.mls_session.proofs.Words.{ChangesAmong, Design, HasRightMarks, IsCounted, IsDirtyList, Journal, config_of, designed_of, terms_of}
 use Rattle.mls_session.specs.Sessions.{KeepsPlanes, Session, kept_of, owners_of}
-use Rattle.mls_session.specs.Setups.{config_of, terms_of}
 use Rattle.mls_session.proofs.CellFrames.{home-ChangesAmong, layouts-ChangesAmong}
 use Rattle.mls_session.proofs.CountedCommands.{Counts-fits, IsCounted-executed}
 use Rattle.mls_session.proofs.JournalledCommands.{Commands-session, Does-full, after_command-limit, entries-full, seen}
@@ -37,7 +34,7 @@ invariant_of-self c =
     let done = c.command-executed.ensures in
     subst (λ (j : Journal). IsCounted c.command-executed.new.self.errors.dirty j.checks) (sym c.keep.ensures)
     (IsCounted-executed (config_of c.args.setup.now pool) (designed_of pool design) (designed_of c.command-executed.new.workspace.pool c.command-executed.new.self) c.self.inside.journal
-    c.args.command c.command-executed.result c.self.invariant done.step done.counts c.has_legal_areas.ensures)
+    c.args.command c.command-executed.result c.self.invariant done.step done.counts (subst (λ (d : Design). IsDirtyList d.errors.dirty) c.design.view_is c.areas.ensures.kept))
 
 pub returns-clause-step : goal.returns-clause-step
 returns-clause-step c =

@@ -1,11 +1,6 @@
 use Rattle.std.proofs.Common.{◌≡◌, IfSome, length, ap, ◌∙◌, subst, sym}
-use Rattle.mls_errorplane.specs.ErrorPlanes.{checking_of}
-use Rattle.mls_errorplane.specs.Stretches.{AreRightIn}
-use Rattle.mls_session.specs.Designs.{KnowsRight, designed_of, drawn_of}
-use Rattle.mls_session.specs.Inner.{IsCounted, Journal, after_steps, finished_steps}
-use Rattle.mls_session.specs.Own.{Drawn, layout_of}
+use Rattle.mls_session.proofs.Words.{AreRightIn, Drawn, IsCounted, Journal, KnowsRight, after_steps, checking_of, config_of, designed_of, drawn_of, finished_steps, layout_of, terms_of}
 use Rattle.mls_session.specs.Sessions.{KeepsPlanes, Session, kept_of}
-use Rattle.mls_session.specs.Setups.{config_of, terms_of}
 use Rattle.mls_session.proofs.CountedSteps.{IsCounted-finished}
 use Rattle.mls_session.proofs.JournalledCommands.{seen}
 use Rattle.mls_session.proofs.JournalledSteps.{Finishes-finished, right_after}

@@ -1,14 +1,6 @@
 use Rattle.std.proofs.Common.{refl, subst}
-use Rattle.mls_library.specs.SavedCells.{HoldsOwnTypes}
-use Rattle.mls_session.specs.Designs.{drawn_of}
-use Rattle.mls_session.specs.Journals.{IsLegal}
-use Rattle.mls_session.specs.Looks.{MarksReadBack}
-use Rattle.mls_session.specs.Own.{layout_of}
-use Rattle.mls_session.specs.Sessions.{IsReady, Session, kept_of}
-use Rattle.mls_session.specs.Setups.{terms_of}
-use Rattle.mls_session.specs.declared.look.Look.TheVariants.{Marks}
+use Rattle.mls_session.proofs.Words.{HoldsOwnTypes, IsLegal, IsReady, Marks, MarksReadBack, Quota, Session, drawn_of, kept_of, layout_of, terms_of}
 use Rattle.mls_session.specs.declared.look.Looked.TheVariants.{Marked, Refused}
-use Rattle.mls_session.specs.declared.refusal.Refusal.TheVariants.{Quota}
 use Rattle.mls_session.proofs.JournalledCommands.{seen}
 use Rattle.mls_session.proofs.OwnTypes.{holds_layout, legal_own, own_cells}
 use Rattle.mls_session.proofs.SessionLooks.{Looks-marks, Looks-marks-Quota, LooksMore}

@@ -1,7 +1,5 @@
-use Rattle.mls_session.specs.Designs.{HasRightMarks}
-use Rattle.mls_session.specs.Journals.{ChecksTimes}
+use Rattle.mls_session.proofs.Words.{ChecksTimes, HasRightMarks, config_of, terms_of}
 use Rattle.mls_session.specs.Sessions.{KeepsPlanes, kept_of, state_of}
-use Rattle.mls_session.specs.Setups.{config_of, terms_of}
 use Rattle.mls_session.proofs.session.Session.run_steps.Given as goal
 
 -- as many steps as there were turns were done

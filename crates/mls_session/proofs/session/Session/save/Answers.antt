@@ -1,13 +1,7 @@
 use Rattle.std.proofs.Common.{length, sym, subst, eqb-true}
 use Rattle.std.proofs.lemmas.Bool.{eqb-false}
-use Rattle.mls_paint.specs.Planes.{layout_in}
-use Rattle.mls_library.specs.SavedCells.{HoldsOwnTypes, ReadsAs, saved_text}
-use Rattle.mls_session.specs.Journals.{IsLegal}
-use Rattle.mls_session.specs.OwnSteps.{HaveOwnCells}
-use Rattle.mls_session.specs.Saving.{SavesText}
+use Rattle.mls_session.proofs.Words.{HaveOwnCells, HoldsOwnTypes, IsLegal, ReadsAs, Reply, SavesText, layout_in, saved_text, terms_of}
 use Rattle.mls_session.specs.Sessions.{IsHome, Session, kept_of, state_of}
-use Rattle.mls_session.specs.Setups.{terms_of}
-use Rattle.mls_session.specs.declared.reply.Reply.{Reply}
 use Rattle.mls_session.proofs.JournalledCommands.{entries-full, seen}
 use Rattle.mls_session.proofs.JournalledSaves.{Saves-full, Saves-saved}
 use Rattle.mls_session.proofs.LegalJournals.{Saves-legal}

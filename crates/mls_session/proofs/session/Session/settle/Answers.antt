@@ -1,15 +1,11 @@
 use Rattle.std.proofs.Common.{◌+◌, ap, subst, sym}
-use Rattle.mls_errorplane.specs.ErrorPlanes.{checking_of}
-use Rattle.mls_session.specs.Designs.{KnowsRight, designed_of, drawn_of}
-use Rattle.mls_session.specs.Inner.{IsCounted, Journal}
-use Rattle.mls_session.specs.Own.{layout_of}
+use Rattle.mls_session.proofs.Words.{IsCounted, Journal, KnowsRight, checking_of, config_of, designed_of, drawn_of, layout_of, terms_of}
 use Rattle.mls_session.specs.Sessions.{KeepsPlanes, Session, kept_of}
-use Rattle.mls_session.specs.Setups.{config_of, terms_of}
 use Rattle.mls_session.proofs.CountedSteps.{IsCounted-Steps, fits_of}
 use Rattle.mls_session.proofs.JournalledCommands.{seen}
 use Rattle.mls_session.proofs.JournalledSteps.{ChecksTimes-Steps, right_after}
 use Rattle.mls_session.proofs.KeptPlanes.{StaysSound-refl}
-use Rattle.mls_session.proofs.RightMarks.{Steps-IsChecked}
+use Rattle.mls_errorplane.proofs.StepsDone.{AfterSteps-IsChecked}
 use Rattle.mls_session.proofs.StepRuns.{ChecksTimes-legal, ChecksTimes-none}
 use Rattle.mls_session.proofs.session.Session.settle.Goals as goal
 
@@ -53,7 +49,7 @@ returns-clause-sound c = record {
       ChecksTimes-legal (terms_of c.args.setup.now c.args.workspace.now.pool) c.settle-steps.result (kept_of c.args.workspace.now.pool c.args.self.now) (kept_of c.settle-steps.new.workspace.pool (seen c.settle-steps.new.self c.count.new.self)) (returns-clause-settled c);
   marks_right =
       right_after c.args.setup.now c.args.workspace.now.pool c.settle-steps.new.workspace.pool c.args.self.now c.self.inside.design c.settle-steps.new.self c.self.inside.journal c.count.new.self c.self.view_is c.settle-steps.ensures.keeps.drawn
-      (Steps-IsChecked c.args.setup.now.rules (layout_of (config_of c.args.setup.now c.args.workspace.now.pool) (drawn_of c.args.workspace.now.pool c.self.inside.design)) c.self.inside.design.quota c.settle-steps.result (checking_of c.args.workspace.now.pool c.self.inside.design.errors) (checking_of c.settle-steps.new.workspace.pool c.settle-steps.new.self.errors) c.settle-steps.ensures.steps);
+      (AfterSteps-IsChecked c.args.setup.now.rules (layout_of (config_of c.args.setup.now c.args.workspace.now.pool) (drawn_of c.args.workspace.now.pool c.self.inside.design)) c.self.inside.design.quota (checking_of c.args.workspace.now.pool c.self.inside.design.errors) (checking_of c.settle-steps.new.workspace.pool c.settle-steps.new.self.errors) (c.settle-steps.result, c.settle-steps.ensures.steps));
   planes =
       subst (λ (s : Session). KeepsPlanes c.args.workspace.now.pool c.settle-steps.new.workspace.pool s (seen c.settle-steps.new.self c.count.new.self)) c.self.view_is
       (record { planes = c.settle-steps.ensures.keeps.planes; limit = ap (λ (j : Journal). j.limit) c.count.ensures });

@@ -1,9 +1,6 @@
 use Rattle.std.proofs.Common.{subst}
 use Rattle.mls_errorplane.proofs.GatheredMarks.{violations_are_marks}
-use Rattle.mls_session.specs.Looks.{ErrorsReadBack}
-use Rattle.mls_session.specs.Own.{layout_of}
-use Rattle.mls_session.specs.Sessions.{Session, kept_of}
-use Rattle.mls_session.specs.Setups.{config_of, terms_of}
+use Rattle.mls_session.proofs.Words.{ErrorsReadBack, Session, config_of, kept_of, layout_of, terms_of}
 use Rattle.mls_session.proofs.session.Session.shows_boxes.Goals as goal
 
 pub returns-clause-errors_read_back : goal.returns-clause-errors_read_back

@@ -1,10 +1,6 @@
 use Rattle.std.proofs.Common.{◌≡◌, ap, ◌∙◌, subst, sym}
-use Rattle.mls_errorplane.specs.ErrorPlanes.{checking_of}
-use Rattle.mls_session.specs.Designs.{drawn_of}
-use Rattle.mls_session.specs.Inner.{IsCounted, Journal, after_steps, done_steps}
-use Rattle.mls_session.specs.Own.{layout_of}
+use Rattle.mls_session.proofs.Words.{IsCounted, Journal, after_steps, checking_of, config_of, done_steps, drawn_of, layout_of, terms_of}
 use Rattle.mls_session.specs.Sessions.{KeepsPlanes, Session, kept_of}
-use Rattle.mls_session.specs.Setups.{config_of, terms_of}
 use Rattle.mls_session.proofs.CountedSteps.{IsCounted-stepped}
 use Rattle.mls_session.proofs.JournalledCommands.{seen}
 use Rattle.mls_session.proofs.JournalledSteps.{StepsOnce-stepped, right_after}

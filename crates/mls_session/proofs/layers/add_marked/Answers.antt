@@ -1,9 +1,9 @@
 use Rattle.std.proofs.Common.{arith}
 use Rattle.mls_session.proofs.MarkedTexts.{dirty_lines-few, mark_lines-few, marked_line_count-sum}
-use Rattle.mls_session.proofs.layers.count_marked.Goals as goal
+use Rattle.mls_session.proofs.layers.add_marked.Goals as goal
 
-pub returns : goal.returns
-returns c layout picture all are =
+pub returns-clause-count : goal.returns-clause-count
+returns-clause-count c layout picture all are =
     let tech = c.args.tech.now in
     omega (
       arith,
@@ -13,13 +13,13 @@ returns c layout picture all are =
       marked_line_count-sum tech layout c.args.areas.now picture c.args.marks.now are,
     )
 
-pub overflow_add-result-2 : goal.overflow_add-result-2
-overflow_add-result-2 c =
+pub overflow_add-others-2 : goal.overflow_add-others-2
+overflow_add-others-2 c =
     let (picture, are) = c.requires.marks in
     omega (arith, c.dirty_line_count.ensures, c.mark_line_count.ensures, c.requires.areas, dirty_lines-few c.args.areas.now, mark_lines-few picture c.args.marks.now are)
 
-pub overflow_add-result-3 : goal.overflow_add-result-3
-overflow_add-result-3 c =
+pub overflow_add-result : goal.overflow_add-result
+overflow_add-result c =
     let (picture, are) = c.requires.marks in
     omega (
       arith,
