@@ -1,10 +1,6 @@
 -- The directions across a direction.
-use Rattle.std.proofs.Common.{◌≡◌, Bool, true, false, true≢false, ◌||◌, inl, inr, refl, sym}
-use Rattle.std.specs.List.{list_any}
-use Rattle.std.proofs.lemmas.Bool.{or_left, or_right, or_cases}
-use Rattle.mls_geom.specs.Directions.{across}
-use Rattle.mls_geom.specs.declared.direction.Direction.{Direction}
-use Rattle.mls_geom.specs.declared.direction.Direction.TheVariants.{Right, Up, Left, Down}
+use Rattle.mls_geom.proofs.Common.{◌≡◌, Bool, true, false, true≢false, ◌||◌, inl, inr, refl, sym, list_any, or_left, or_right, or_cases}
+use Rattle.mls_geom.proofs.Definitions.{across, Direction, Right, Up, Left, Down}
 
 -- the second direction is one of the two across the first
 abbrev pub crosses : Direction → Direction → Bool

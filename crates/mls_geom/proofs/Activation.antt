@@ -1,16 +1,7 @@
 -- How the active pieces change at a line.
-use Rattle.std.proofs.Common.{◌≡◌, ℕ, ◌+◌, ◌<◌, ◌≤◌, true, nat_eq, nat_lt, List, [], ◌++◌, slice_get, All, subst, arith, inl, inr}
-use Rattle.std.specs.List.{Contains, IsDistinct, filter}
-use Rattle.std.specs.List.Sorted.{IsNonDecreasing, IsNonDecreasingBy, IsPermutation}
-use Rattle.std.proofs.lemmas.Bool.{lt-ltb, ltb-true}
-use Rattle.std.proofs.lemmas.List.Elements.{All-append, All-contains, All-filter, All-nil, All-weaker, Contains-append_cases, filter_passes}
-use Rattle.std.proofs.lemmas.List.Sorted.{All-permutation, Contains-permutation, IsPermutation-append_left}
-use Rattle.std.proofs.lemmas.Map.Keys.{IsStrictlyIncreasing-from_distinct}
-use Rattle.mls_geom.specs.Sweep.ActivePieces.{ArePartedAt, AreStarts, StartsBelow, EndsFrom, HasPiece, AddsStarted, NamesPiece, ends_above, pieces_of}
-use Rattle.mls_geom.specs.Rects.{Rect, IsRectangleIn}
-use Rattle.mls_geom.specs.Sweep.Rows.{AreActive}
-use Rattle.mls_geom.specs.declared.active.Start.{Start}
-use Rattle.mls_geom.specs.declared.piece.Piece.{Piece}
+use Rattle.mls_geom.proofs.Common.{◌≡◌, ℕ, ◌+◌, ◌<◌, ◌≤◌, true, nat_eq, nat_lt, List, [], ◌++◌, slice_get, All, subst, arith, inl, inr, Contains, IsDistinct, filter, IsNonDecreasing, IsNonDecreasingBy, IsPermutation, lt-ltb, ltb-true, All-append, All-contains, All-filter, All-nil, All-weaker, Contains-append_cases, filter_passes, All-permutation, Contains-permutation, IsPermutation-append_left, IsStrictlyIncreasing-from_distinct}
+use Rattle.mls_geom.proofs.Definitions.{ArePartedAt, AreStarts, StartsBelow, EndsFrom, HasPiece, AddsStarted, NamesPiece, ends_above, Rect, IsRectangleIn, AreActive, Start, Piece}
+use Rattle.mls_geom.specs.Sweep.ActivePieces.{pieces_of}
 use Rattle.mls_geom.proofs.ListLemmas.{All-append_left, All-append_right, Contains-filter_append, IsDistinct-append_left, IsDistinct-filter_append, IsDistinct-moved, IsNonDecreasingBy-append_right, IsSomeAnd-both, IsSomeAnd-const, IsSomeAnd-from_option_map_or, IsSomeAnd-weaker, option_map_or-true, within-from_IsSomeAnd}
 use Rattle.mls_geom.proofs.Starts.{StartsFrom, HasPiece-all, HasPiece-weaker, AddsStarted-all, started_below, start_from_piece, waiting_ahead}
 

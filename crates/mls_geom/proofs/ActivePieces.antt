@@ -1,15 +1,6 @@
 -- The pieces that a row meets show in it what all the pieces show.
-use Rattle.std.proofs.Common.{◌≡◌, ◌≢◌, ℕ, zero, suc, ◌+◌, ◌-◌, ◌<◌, ◌≤◌, false, Some, cond, List, [], ◌∷◌, ◌++◌, length, drop, take, get_or, slice_index, slice_get, IsSomeAnd, refl, sym, ap, ◌∙◌, inl, inr, arith, add-zero, zero-add, add_assoc, add-one, one-add}
-use Rattle.std.specs.List.{All, cons_option, filter_map}
-use Rattle.std.specs.List.Sorted.{IsStrictlyIncreasing}
-use Rattle.std.proofs.lemmas.Bool.{cases_eq, cases_lt, cases_order, false_from_ne_true}
-use Rattle.std.proofs.lemmas.List.{drop_all, drop_more, get_or_default, take_more}
-use Rattle.std.proofs.lemmas.List.Elements.{Contains-get_or, filter_map-append}
-use Rattle.std.proofs.lemmas.List.Kept.{AllPairs-from_increasing}
-use Rattle.mls_geom.specs.Rects.{holds}
-use Rattle.mls_geom.specs.Pictures.{Picture, overlaid, painted}
-use Rattle.mls_geom.specs.Sweep.Rows.{AreActive}
-use Rattle.mls_geom.specs.declared.piece.Piece.{Piece}
+use Rattle.mls_geom.proofs.Common.{◌≡◌, ◌≢◌, ℕ, zero, suc, ◌+◌, ◌-◌, ◌<◌, ◌≤◌, false, Some, cond, List, [], ◌∷◌, ◌++◌, length, drop, take, get_or, slice_index, slice_get, IsSomeAnd, refl, sym, ap, ◌∙◌, inl, inr, arith, add-zero, zero-add, add_assoc, add-one, one-add, All, cons_option, filter_map, IsStrictlyIncreasing, cases_eq, cases_lt, cases_order, false_from_ne_true, drop_all, drop_more, get_or_default, take_more, Contains-get_or, filter_map-append, AllPairs-from_increasing}
+use Rattle.mls_geom.proofs.Definitions.{holds, Picture, overlaid, painted, AreActive, Piece}
 use Rattle.mls_geom.proofs.Holds.{holds_between}
 use Rattle.mls_geom.proofs.Overlays.{painted_outside}
 

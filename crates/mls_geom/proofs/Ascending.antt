@@ -1,8 +1,5 @@
 -- Lists in strict order, and the elements of lists made of others.
-use Rattle.std.proofs.Common.{◌≡◌, zero, suc, ◌⊎◌, inl, inr, Bool, true, List, [], ◌∷◌, ◌++◌, map, flat_map, filter, All, AllPairs, Contains, refl, sym, ap, ◌∙◌, subst, suc-le-suc, le_of_suc-le-suc, arith}
-use Rattle.std.proofs.lemmas.Bool.{both_ways, cond_both}
-use Rattle.std.proofs.lemmas.List.Elements.{All-contains, All-map, All-append, All-head, All-tail, Contains-append_left, Contains-append_right}
-use Rattle.std.proofs.lemmas.List.Kept.{AllPairs-cons}
+use Rattle.mls_geom.proofs.Common.{◌≡◌, zero, suc, ◌⊎◌, inl, inr, Bool, true, List, [], ◌∷◌, ◌++◌, map, flat_map, filter, All, AllPairs, Contains, refl, sym, ap, ◌∙◌, subst, suc-le-suc, le_of_suc-le-suc, arith, both_ways, cond_both, All-contains, All-map, All-append, All-head, All-tail, Contains-append_left, Contains-append_right, AllPairs-cons}
 
 -- an element of a list is its first or one of the rest
 Contains-cases : {X : Type 0} (x y : X) (xs : List X) → Contains (x ∷ xs) y → (x ≡ y) ⊎ Contains xs y

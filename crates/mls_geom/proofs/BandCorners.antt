@@ -1,13 +1,6 @@
 -- The covered corners of a band of rows that are alike: they lie in its lowest row, and each begins a run that the row below doesn't have.
-use Rattle.std.proofs.Common.{◌≡◌, ◌≢◌, ℕ, ◌+◌, ◌-◌, ◌<◌, ◌≤◌, ◌&&◌, Bool, true, false, not, cond, refl, sym, ◌∙◌, inl, inr, le_refl, arith, eq-eqb}
-use Rattle.std.proofs.lemmas.Bool.{and_parts, and_from, or_from, ne_eqb, and_left, and_right, not_from_true, cases_Bool, cond-false, eqb-true, ltb-true, lt-ltb}
-use Rattle.mls_geom.specs.Rects.{Rect}
-use Rattle.mls_geom.specs.Pictures.{Picture}
-use Rattle.mls_geom.specs.Sweep.Stacks.{AreAlike, up_to}
-use Rattle.mls_geom.specs.Strips.{IsRun}
-use Rattle.mls_geom.specs.Locality.{covered_count, uncovered}
-use Rattle.mls_geom.specs.TileCounts.{starts_run, goes_on_below}
-use Rattle.mls_geom.specs.Sweep.Changing.{corner_at, corners_between}
+use Rattle.mls_geom.proofs.Common.{◌≡◌, ◌≢◌, ℕ, ◌+◌, ◌-◌, ◌<◌, ◌≤◌, ◌&&◌, Bool, true, false, not, cond, refl, sym, ◌∙◌, inl, inr, le_refl, arith, eq-eqb, and_parts, and_from, or_from, ne_eqb, and_left, and_right, not_from_true, cases_Bool, cond-false, eqb-true, ltb-true, lt-ltb}
+use Rattle.mls_geom.proofs.Definitions.{Rect, Picture, AreAlike, up_to, IsRun, covered_count, uncovered, starts_run, goes_on_below, corner_at, corners_between}
 use Rattle.mls_geom.proofs.CornerCounts.{sum_by-between, sum_by-first, sum_by-none, covered_count-up_to}
 use Rattle.mls_geom.proofs.RowRuns.{IsRun-alike}
 use Rattle.mls_geom.proofs.RunTests.{starts_run-IsRun, run_end-IsRun, IsRun-from_tests}

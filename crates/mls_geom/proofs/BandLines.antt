@@ -1,14 +1,6 @@
 -- The lines of pieces, from the bottom up.
-use Rattle.std.proofs.Common.{◌≡◌, ℕ, ◌+◌, ◌-◌, ◌<◌, ◌≤◌, ◌↔◌, List, [], ◌∷◌, ◌++◌, length, get_or, take, subst, ◌∙◌, arith, inl, inr}
-use Rattle.std.specs.List.{Contains}
-use Rattle.std.specs.List.Sorted.{IsNonDecreasing, IsStrictlyIncreasing}
-use Rattle.std.proofs.lemmas.Bool.{cases_lt}
-use Rattle.std.proofs.lemmas.List.{get_or_default}
-use Rattle.std.proofs.lemmas.List.Elements.{All-contains, All-contains_itself, All-more, All-push, All-weaker, Contains-append_left, Contains-push}
-use Rattle.std.proofs.lemmas.Map.Keys.{non_decreasing_from_sorted, sorted_from_strictly_increasing}
-use Rattle.mls_geom.specs.Sweep.BandLines.{AreBandLines, HaveEnds, HaveEndsOf, IsLineOf}
-use Rattle.mls_geom.specs.Rects.{Rect, IsRectangleIn}
-use Rattle.mls_geom.specs.declared.piece.Piece.{Piece}
+use Rattle.mls_geom.proofs.Common.{◌≡◌, ℕ, ◌+◌, ◌-◌, ◌<◌, ◌≤◌, ◌↔◌, List, [], ◌∷◌, ◌++◌, length, get_or, take, subst, ◌∙◌, arith, inl, inr, Contains, IsNonDecreasing, IsStrictlyIncreasing, cases_lt, get_or_default, All-contains, All-contains_itself, All-more, All-push, All-weaker, Contains-append_left, Contains-push, non_decreasing_from_sorted, sorted_from_strictly_increasing}
+use Rattle.mls_geom.proofs.Definitions.{AreBandLines, HaveEnds, HaveEndsOf, IsLineOf, Rect, IsRectangleIn, Piece}
 use Rattle.mls_geom.proofs.BandRows.{IsBand}
 
 -- one line more

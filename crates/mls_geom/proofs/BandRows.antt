@@ -1,12 +1,6 @@
 -- The rows between neighbouring lines are alike.
-use Rattle.std.proofs.Common.{◌≡◌, ℕ, ◌<◌, ◌≤◌, nat_le, nat_lt, List, [], ◌∷◌, All, refl, arith}
-use Rattle.std.proofs.lemmas.Bool.Decides.{nat_tests}
-use Rattle.std.proofs.lemmas.List.Elements.{All-head, All-tail}
-use Rattle.mls_geom.specs.Rects.{Rect, holds}
-use Rattle.mls_geom.specs.Locality.{laid, uncovered}
-use Rattle.mls_geom.specs.Pictures.{Picture, overlaid, painted}
-use Rattle.mls_geom.specs.Sweep.Stacks.{AreAlike}
-use Rattle.mls_geom.specs.declared.piece.Piece.{Piece}
+use Rattle.mls_geom.proofs.Common.{◌≡◌, ℕ, ◌<◌, ◌≤◌, nat_le, nat_lt, List, [], ◌∷◌, All, refl, arith, nat_tests, All-head, All-tail}
+use Rattle.mls_geom.proofs.Definitions.{Rect, holds, laid, uncovered, Picture, overlaid, painted, AreAlike, Piece}
 
 -- the piece neither begins nor ends between the two lines
 pub record EndsOutside (bottom top : ℕ) (piece : Piece) : Type 0 where

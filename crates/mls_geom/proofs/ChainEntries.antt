@@ -1,14 +1,6 @@
 -- The entries of the chains of a segment tree's nodes.
-use Rattle.std.proofs.Common.{◌≡◌, ◌≢◌, ℕ, suc, ◌<◌, ◌≤◌, ◌++◌, nat_lt, nat_le, ◌==◌, true, false, Option, Some, None, List, [], ◌∷◌, length, get_or, IfSome, inl, inr, refl, sym, ap, subst, ◌∙◌, arith, append_assoc}
-use Rattle.std.proofs.Math.ListN.{set, get_or-append}
-use Rattle.std.proofs.Math.Seq.{get_or-append_seam}
-use Rattle.std.proofs.lemmas.Bool.Decides.{nat_tests}
-use Rattle.std.proofs.lemmas.List.{get_or_default, get_or-set_same, get_or-set_other, length-append, length-set}
-use Rattle.std.proofs.lemmas.Option.{slice_get_cases, slice_get-get_or, get_or_from_slice_get}
-use Rattle.mls_geom.specs.Sweep.Chains.{Each, IsChain, IsFalling, IsFront, IsFrontTo, IsSplitAt, entry_at, linked, outliving, under_of, unlinked}
-use Rattle.mls_geom.specs.Sweep.Trees.{end_of}
-use Rattle.mls_geom.specs.declared.chain.Entry.{Entry}
-use Rattle.mls_geom.specs.declared.segment.Segment.{Segment}
+use Rattle.mls_geom.proofs.Common.{◌≡◌, ◌≢◌, ℕ, suc, ◌<◌, ◌≤◌, ◌++◌, nat_lt, nat_le, ◌==◌, true, false, Option, Some, None, List, [], ◌∷◌, length, get_or, IfSome, inl, inr, refl, sym, ap, subst, ◌∙◌, arith, append_assoc, set, get_or-append, get_or-append_seam, nat_tests, get_or_default, get_or-set_same, get_or-set_other, length-append, length-set, slice_get_cases, slice_get-get_or, get_or_from_slice_get}
+use Rattle.mls_geom.proofs.Definitions.{Each, IsChain, IsFalling, IsFront, IsFrontTo, IsSplitAt, entry_at, linked, outliving, under_of, unlinked, end_of, Entry, Segment}
 use Rattle.mls_geom.proofs.EachOfChain.{Each-right, Each-weaker, Each-always, Each-outliving}
 
 -- a chain that begins at an entry has its piece, and then those of the chain under it

@@ -1,8 +1,6 @@
 -- Chains with one more piece.
-use Rattle.std.proofs.Common.{◌≡◌, ◌≢◌, ℕ, ◌-◌, ◌<◌, ◌≤◌, ◌⊎◌, suc, false, nat_lt, nat_le, List, [], ◌∷◌, inl, inr, refl, arith, ltb-true, leb-true}
-use Rattle.std.proofs.lemmas.Bool.{cases_Bool, leb-false, ltb-false}
-use Rattle.mls_geom.specs.Sweep.Chains.{Hides, IsHiddenBy, Each, IsStaircase, rank_of, outliving, linked}
-use Rattle.mls_geom.specs.Sweep.Trees.{IsRankOf}
+use Rattle.mls_geom.proofs.Common.{◌≡◌, ◌≢◌, ℕ, ◌-◌, ◌<◌, ◌≤◌, ◌⊎◌, suc, false, nat_lt, nat_le, List, [], ◌∷◌, inl, inr, refl, arith, ltb-true, leb-true, cases_Bool, leb-false, ltb-false}
+use Rattle.mls_geom.proofs.Definitions.{Hides, IsHiddenBy, Each, IsStaircase, rank_of, outliving, linked, IsRankOf}
 use Rattle.mls_geom.proofs.EachOfChain.{Each-weaker, Each-linked, outliving-passed}
 
 -- the pieces under one that doesn't lie over the piece don't

@@ -1,15 +1,6 @@
 -- Chains that are changed at the topmost nodes of a part that lie in a span.
-use Rattle.std.proofs.Common.{◌≡◌, ◌≢◌, ℕ, ◌+◌, ◌^◌, ◌==◌, ◌&&◌, ◌||◌, zero, suc, Bool, true, false, nat_lt, nat_le, if◌then◌else◌, List, refl, sym, ap, subst, ◌∙◌, arith, ne_eqb}
-use Rattle.std.proofs.Math.Path.{fun_ext}
-use Rattle.std.proofs.lemmas.Nat.{pow_pos}
-use Rattle.std.proofs.lemmas.Bool.{false_from_ne_true}
-use Rattle.std.proofs.lemmas.Bool.Decides.{nat_tests}
-use Rattle.mls_geom.specs.declared.part.Span.{Span}
-use Rattle.mls_geom.specs.declared.node.Node.{Node}
-use Rattle.mls_geom.specs.declared.segment.Segment.{Segment}
-use Rattle.mls_geom.specs.Sweep.Chains.{rank_of}
-use Rattle.mls_geom.specs.Sweep.Trees.{IsInside, node_of, lies_in, has_node, node_at, AreSummed, AreSummedBelow, AreLinked, changed_in, HasChanged, IsSummedUp}
-use Rattle.mls_geom.specs.declared.tree.Tree.{Tree}
+use Rattle.mls_geom.proofs.Common.{◌≡◌, ◌≢◌, ℕ, ◌+◌, ◌^◌, ◌==◌, ◌&&◌, ◌||◌, zero, suc, Bool, true, false, nat_lt, nat_le, if◌then◌else◌, List, refl, sym, ap, subst, ◌∙◌, arith, ne_eqb, fun_ext, pow_pos, false_from_ne_true, nat_tests}
+use Rattle.mls_geom.proofs.Definitions.{Span, Node, Segment, rank_of, IsInside, node_of, lies_in, has_node, node_at, AreSummed, AreSummedBelow, AreLinked, changed_in, HasChanged, IsSummedUp, Tree}
 use Rattle.mls_geom.proofs.ShownSlots.{twice}
 use Rattle.mls_geom.proofs.TopSlots.{has_node-inside}
 use Rattle.mls_geom.proofs.SummedNodes.{AreSummed-below, AreSummedBelow-alike, AreSummedBelow-halves}

@@ -1,25 +1,6 @@
 -- A row of which marks have the slots that change: outside them the row below goes on.
-use Rattle.std.proofs.Common.{◌≡◌, ℕ, zero, suc, ◌+◌, ◌-◌, ◌<◌, ◌≤◌, ◌⊎◌, nat_lt, Bool, List, [], ◌∷◌, ◌++◌, length, drop, get_or, slice_index, take, inl, inr, sym, ap, ◌∙◌, le_refl, arith, add-zero, append-nil}
-use Rattle.std.specs.List.{AllWithin, Contains, HoldsAt, slice_range}
-use Rattle.std.specs.List.Sorted.{IsNonDecreasingBy, IsPermutation}
-use Rattle.std.proofs.lemmas.Bool.{cases_eq, cases_lt, cond-false, cond-true, le-ltb, lt-ltb}
-use Rattle.std.proofs.lemmas.List.{append_assoc, get_or-drop, get_or-map, length-drop, length-map, take_more}
-use Rattle.std.proofs.lemmas.List.Kept.{AllPairs-from_increasing}
-use Rattle.std.proofs.lemmas.List.Elements.{Contains-get_or}
-use Rattle.std.proofs.lemmas.List.Sorted.{All-permutation, IsPermutation-sym}
-use Rattle.mls_geom.specs.Locality.{uncovered}
-use Rattle.mls_geom.specs.Pictures.{Picture}
-use Rattle.mls_geom.specs.Strips.{IsRun}
-use Rattle.mls_geom.specs.Sweep.Changing.{AreInOrder, IsChange, IsChanging, IsClear, IsEnd, ShowsSlots, runs_of, strip_of}
-use Rattle.mls_geom.specs.Sweep.KeptRows.{AreMarks, HaveChanges, IsKept, ShowsRow, run_of, shown_below, strip_at}
-use Rattle.mls_geom.specs.Sweep.Rows.{AreRuns}
-use Rattle.mls_geom.specs.Sweep.Slots.{AreCuts}
-use Rattle.mls_geom.specs.Sweep.Trees.{IsTree}
-use Rattle.mls_geom.specs.World.{world}
-use Rattle.mls_geom.specs.declared.part.Span.{Span}
-use Rattle.mls_geom.specs.declared.piece.Piece.{Piece}
-use Rattle.mls_geom.specs.declared.run.Run.{Run}
-use Rattle.mls_geom.specs.declared.tree.Tree.{Tree}
+use Rattle.mls_geom.proofs.Common.{◌≡◌, ℕ, zero, suc, ◌+◌, ◌-◌, ◌<◌, ◌≤◌, ◌⊎◌, nat_lt, Bool, List, [], ◌∷◌, ◌++◌, length, drop, get_or, slice_index, take, inl, inr, sym, ap, ◌∙◌, le_refl, arith, add-zero, append-nil, AllWithin, Contains, HoldsAt, slice_range, IsNonDecreasingBy, IsPermutation, cases_eq, cases_lt, cond-false, cond-true, le-ltb, lt-ltb, append_assoc, get_or-drop, get_or-map, length-drop, length-map, take_more, AllPairs-from_increasing, Contains-get_or, All-permutation, IsPermutation-sym}
+use Rattle.mls_geom.proofs.Definitions.{uncovered, Picture, IsRun, AreInOrder, IsChange, IsChanging, IsClear, IsEnd, ShowsSlots, runs_of, strip_of, AreMarks, HaveChanges, IsKept, ShowsRow, run_of, shown_below, strip_at, AreRuns, AreCuts, IsTree, world, Span, Piece, Run, Tree}
 use Rattle.mls_geom.proofs.CutLines.{rises, slot_at}
 use Rattle.mls_geom.proofs.KeptRuns.{AllWithin-strips}
 use Rattle.mls_geom.proofs.RowChanges.{IsChanging-finish, IsChanging-kept, IsChanging-uncovered}

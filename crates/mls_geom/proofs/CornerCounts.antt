@@ -1,14 +1,6 @@
 -- The number of covered strips of the rows below a line, by rows and by columns.
-use Rattle.std.proofs.Common.{◌≡◌, ℕ, zero, suc, ◌+◌, ◌-◌, ◌<◌, ◌≤◌, [], ◌∷◌, ◌++◌, refl, ap, add-zero, arith, All}
-use Rattle.std.proofs.lemmas.Bool.Decides.{nat_tests}
-use Rattle.std.specs.List.{range_with_len, sum_by}
-use Rattle.std.proofs.lemmas.List.FromFn.{length-range_with_len, get_or-range_with_len}
-use Rattle.std.proofs.lemmas.List.Sums.{sum_by-append, sum_by-cons, sum_by-le}
-use Rattle.mls_geom.specs.Rects.{Rect}
-use Rattle.mls_geom.specs.Pictures.{Picture}
-use Rattle.mls_geom.specs.Sweep.Stacks.{AreStacked, up_to}
-use Rattle.mls_geom.specs.Locality.{covered_count}
-use Rattle.mls_geom.specs.Sweep.Changing.{corners_between}
+use Rattle.mls_geom.proofs.Common.{◌≡◌, ℕ, zero, suc, ◌+◌, ◌-◌, ◌<◌, ◌≤◌, [], ◌∷◌, ◌++◌, refl, ap, add-zero, arith, All, nat_tests, range_with_len, sum_by, length-range_with_len, get_or-range_with_len, sum_by-append, sum_by-cons, sum_by-le}
+use Rattle.mls_geom.proofs.Definitions.{Rect, Picture, AreStacked, up_to, covered_count, corners_between}
 
 -- a range cut in two
 range_with_len-cut : (a m n : ℕ) → range_with_len a (m + n) ≡ range_with_len a m ++ range_with_len (a + m) n

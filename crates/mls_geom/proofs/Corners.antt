@@ -1,11 +1,6 @@
 -- A strip by its lower-left square.
-use Rattle.std.proofs.Common.{◌≡◌, ℕ, ◌-◌, ◌≤◌, true, inl, inr, sym, ◌∙◌, le_refl, arith}
-use Rattle.std.proofs.lemmas.Bool.{and_from, and_parts, not-true, not_from_false, cases_lt, both_ways, false_from_ne_true}
-use Rattle.mls_geom.specs.Rects.{Rect, holds}
-use Rattle.mls_geom.specs.Pictures.{Picture}
-use Rattle.mls_geom.specs.Strips.{IsRun, IsStrip}
-use Rattle.mls_geom.specs.TileCounts.{starts_run, goes_on_below, is_corner}
-use Rattle.mls_geom.specs.declared.piece.Piece.{Piece}
+use Rattle.mls_geom.proofs.Common.{◌≡◌, ℕ, ◌-◌, ◌≤◌, true, inl, inr, sym, ◌∙◌, le_refl, arith, and_from, and_parts, not-true, not_from_false, cases_lt, both_ways, false_from_ne_true}
+use Rattle.mls_geom.proofs.Definitions.{Rect, holds, Picture, IsRun, IsStrip, starts_run, goes_on_below, is_corner, Piece}
 use Rattle.mls_geom.proofs.Holds.{holds_between}
 use Rattle.mls_geom.proofs.RunTests.{starts_run-IsRun, left-starts_run, run_end-IsRun, goes_on_below-IsRun, IsRun-below}
 

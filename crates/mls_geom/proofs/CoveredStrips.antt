@@ -1,12 +1,6 @@
 -- A picture, and a window on it: the picture with some of its strips uncovered.
-use Rattle.std.proofs.Common.{◌≡◌, ◌≢◌, ℕ, ◌+◌, ◌-◌, ◌<◌, ◌≤◌, true, List, All, Any, inl, inr, sym, ap, ◌∙◌, arith}
-use Rattle.std.proofs.lemmas.Bool.{cases_lt, cases_eq, and_from, and_parts, both_ways, false_from_ne_true, not-true, not_from_false}
-use Rattle.mls_geom.specs.Locality.{uncovered}
-use Rattle.mls_geom.specs.Pictures.{Picture}
-use Rattle.mls_geom.specs.Rects.{Rect, holds}
-use Rattle.mls_geom.specs.Strips.{IsRun, IsStrip}
-use Rattle.mls_geom.specs.TileCounts.{is_corner}
-use Rattle.mls_geom.specs.declared.piece.Piece.{Piece}
+use Rattle.mls_geom.proofs.Common.{◌≡◌, ◌≢◌, ℕ, ◌+◌, ◌-◌, ◌<◌, ◌≤◌, true, List, All, Any, inl, inr, sym, ap, ◌∙◌, arith, cases_lt, cases_eq, and_from, and_parts, both_ways, false_from_ne_true, not-true, not_from_false}
+use Rattle.mls_geom.proofs.Definitions.{uncovered, Picture, Rect, holds, IsRun, IsStrip, is_corner, Piece}
 use Rattle.mls_geom.proofs.Holds.{holds_between, between_holds}
 use Rattle.mls_geom.proofs.RowRuns.{one_run}
 use Rattle.mls_geom.proofs.RunTests.{starts_run-IsRun, IsRun-from_tests, goes_on_below-IsRun, IsRun-below}

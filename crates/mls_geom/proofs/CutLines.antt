@@ -1,9 +1,5 @@
 -- Lines in ascending order, and the slots between them.
-use Rattle.std.proofs.Common.{◌≡◌, ℕ, zero, suc, ◌+◌, ◌<◌, ◌≤◌, ◌&&◌, nat_le, nat_lt, List, length, slice_index, inl, inr, arith, add-zero, add-suc, add-one}
-use Rattle.std.specs.List.Sorted.{IsStrictlyIncreasing}
-use Rattle.std.proofs.lemmas.Bool.{cases_lt}
-use Rattle.std.proofs.lemmas.Bool.Decides.{nat_tests}
-use Rattle.std.proofs.lemmas.List.Kept.{AllPairs-from_increasing}
+use Rattle.mls_geom.proofs.Common.{◌≡◌, ℕ, zero, suc, ◌+◌, ◌<◌, ◌≤◌, ◌&&◌, nat_le, nat_lt, List, length, slice_index, inl, inr, arith, add-zero, add-suc, add-one, IsStrictlyIncreasing, cases_lt, nat_tests, AllPairs-from_increasing}
 use Rattle.mls_geom.specs.Rects.{Rect, holds}
 
 -- a line is not right of a later one

@@ -1,8 +1,6 @@
 -- What holds of each piece of a chain.
 use Rattle.std.proofs.Common.{ℕ, nat_lt, nat_le, ◌==◌, Bool, true, false, if◌then◌else◌, List, [], ◌∷◌, ◌++◌}
-use Rattle.mls_geom.specs.Sweep.Chains.{Each, linked, outliving, stepped, unlinked}
-use Rattle.mls_geom.specs.declared.chain.Step.{Step}
-use Rattle.mls_geom.specs.declared.chain.Step.TheVariants.{Begins, Ends}
+use Rattle.mls_geom.proofs.Definitions.{Each, linked, outliving, stepped, unlinked, Step, Begins, Ends}
 
 -- what holds of each piece of joined lists holds of each of the second one
 pub Each-right : (P : ℕ → Type 0) (front rest : List ℕ) → Each P (front ++ rest) → Each P rest

@@ -1,18 +1,7 @@
 -- Segment trees in which no piece is present.
-use Rattle.std.proofs.Common.{◌≡◌, ℕ, zero, suc, ◌+◌, ◌*◌, ◌^◌, ◌<◌, ◌≤◌, ◌++◌, max, nat_lt, Bool, true, false, if◌then◌else◌, None, List, [], ◌∷◌, length, refl, ap, ◌∙◌, arith, inl, inr}
-use Rattle.std.proofs.Math.Nat.{pow-suc}
-use Rattle.std.proofs.Math.ListN.{replicate}
-use Rattle.std.proofs.lemmas.Bool.{cases_lt, false≢true}
-use Rattle.std.proofs.lemmas.List.{get_or_past, get_or-replicate, length_push, length-replicate}
-use Rattle.std.proofs.lemmas.List.Elements.{All-push}
-use Rattle.std.proofs.lemmas.Nat.{pow_pos}
-use Rattle.mls_geom.specs.Sweep.Chains.{Each, rank_of}
-use Rattle.mls_geom.specs.Sweep.Trees.{Agrees, AreSummed, Bounds, HasHeight, IsSummed, IsTree, node_at, node_of, none, shown}
-use Rattle.mls_geom.specs.declared.node.Node.{Node}
-use Rattle.mls_geom.specs.declared.node.Shown.{Shown}
-use Rattle.mls_geom.specs.declared.node.Shown.TheVariants.{Nothing, One, Several}
-use Rattle.mls_geom.specs.declared.segment.Segment.{Segment}
-use Rattle.mls_geom.specs.declared.tree.Tree.{Tree}
+use Rattle.mls_geom.proofs.Common.{◌≡◌, ℕ, zero, suc, ◌+◌, ◌*◌, ◌^◌, ◌<◌, ◌≤◌, ◌++◌, max, nat_lt, Bool, true, false, if◌then◌else◌, None, List, [], ◌∷◌, length, refl, ap, ◌∙◌, arith, inl, inr, pow-suc, replicate, cases_lt, false≢true, get_or_past, get_or-replicate, length_push, length-replicate, All-push, pow_pos}
+use Rattle.mls_geom.proofs.Definitions.{Each, rank_of, Agrees, AreSummed, Bounds, HasHeight, IsSummed, IsTree, node_at, node_of, none, Node, Shown, Nothing, One, Several, Segment, Tree}
+use Rattle.mls_geom.specs.Sweep.Trees.{shown}
 
 -- a chain of pieces of which there are none has none
 no_pieces : (P : ℕ → Type 0) (chain : List ℕ) → ((i : ℕ) → P i → ⊥) → Each P chain → chain ≡ []

@@ -1,17 +1,7 @@
 -- Events in order.
-use Rattle.std.proofs.Common.{◌≡◌, ◌==◌, ◌&&◌, ◌||◌, nat_lt, Bool, true, ℕ, zero, suc, ◌+◌, ◌<◌, ◌≤◌, List, [], ◌∷◌, ◌++◌, get_or, length, refl, sym, arith, inl, inr, add-one}
-use Rattle.std.specs.List.{All, AllPairs, Contains, IsAllAdjacentAnswer}
-use Rattle.std.specs.List.Sorted.{IsPermutation}
-use Rattle.std.proofs.lemmas.Bool.{cases_lt}
-use Rattle.std.proofs.lemmas.Bool.Decides.{nat_tests}
-use Rattle.std.proofs.lemmas.List.{map_push}
-use Rattle.std.proofs.lemmas.List.Elements.{All-push, Contains-append_left, Contains-push}
-use Rattle.std.proofs.lemmas.List.Sorted.{All-permutation, Contains-permutation, IsPermutation-map}
-use Rattle.std.proofs.lemmas.Option.{slice_get_read}
-use Rattle.mls_geom.specs.Sweep.ActivePieces.{HasPiece}
-use Rattle.mls_geom.specs.Sweep.Events.{AreEvents, IsBefore, pieces_of}
-use Rattle.mls_geom.specs.declared.events.Event.{Event}
-use Rattle.mls_geom.specs.declared.piece.Piece.{Piece}
+use Rattle.mls_geom.proofs.Common.{◌≡◌, ◌==◌, ◌&&◌, ◌||◌, nat_lt, Bool, true, ℕ, zero, suc, ◌+◌, ◌<◌, ◌≤◌, List, [], ◌∷◌, ◌++◌, get_or, length, refl, sym, arith, inl, inr, add-one, All, AllPairs, Contains, IsAllAdjacentAnswer, IsPermutation, cases_lt, nat_tests, map_push, All-push, Contains-append_left, Contains-push, All-permutation, Contains-permutation, IsPermutation-map, slice_get_read}
+use Rattle.mls_geom.proofs.Definitions.{HasPiece, AreEvents, IsBefore, Event, Piece}
+use Rattle.mls_geom.specs.Sweep.Events.{pieces_of}
 use Rattle.mls_geom.proofs.ListLemmas.{within-from_IsSomeAnd}
 
 -- an event that stands before another stands before those after it

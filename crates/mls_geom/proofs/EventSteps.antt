@@ -1,21 +1,7 @@
 -- The events that a sweep upward reaches at a line, one after another.
-use Rattle.std.proofs.Common.{◌≡◌, ◌≢◌, ℕ, zero, suc, ◌+◌, ◌-◌, ◌<◌, ◌≤◌, ◌==◌, ◌&&◌, ◌||◌, not, leb, nat_le, nat_lt, Bool, true, false, List, [], ◌∷◌, Option, Some, None, get_or, length, drop, slice_get, slice_index_or, refl, sym, ap, ◌∙◌, arith, inl, inr, add-one}
-use Rattle.std.specs.List.{All, AllPairs, Contains}
-use Rattle.std.specs.List.Sorted.{IsNonDecreasingBy, IsPartitionPoint}
-use Rattle.std.specs.Option.{option_map_or}
-use Rattle.std.proofs.Math.Path.{fun_ext}
-use Rattle.std.proofs.lemmas.Bool.{cases_Bool, cases_eq, cases_lt, eq-eqb, eqb-true, false_from_ne_true, both_ways, leb-true, leb-false}
-use Rattle.std.proofs.lemmas.Bool.Decides.{nat_tests}
-use Rattle.std.proofs.lemmas.List.{get_or-drop, get_or-map, get_or_default, length-drop, length-map}
-use Rattle.std.proofs.lemmas.List.Elements.{All-head, All-tail}
-use Rattle.mls_geom.specs.Sweep.ActivePieces.{HasPiece}
-use Rattle.mls_geom.specs.Sweep.Events.{AreEvents, IsBefore, bottom_of, is_above, is_below, line_of, moved, pieces_of, present_after, present_before, top_of}
-use Rattle.mls_geom.specs.Sweep.Trees.{none}
-use Rattle.mls_geom.specs.World.{AreLegal}
-use Rattle.mls_geom.specs.declared.chain.Step.{Step}
-use Rattle.mls_geom.specs.declared.chain.Step.TheVariants.{Begins, Ends}
-use Rattle.mls_geom.specs.declared.events.Event.{Event}
-use Rattle.mls_geom.specs.declared.piece.Piece.{Piece}
+use Rattle.mls_geom.proofs.Common.{◌≡◌, ◌≢◌, ℕ, zero, suc, ◌+◌, ◌-◌, ◌<◌, ◌≤◌, ◌==◌, ◌&&◌, ◌||◌, not, leb, nat_le, nat_lt, Bool, true, false, List, [], ◌∷◌, Option, Some, None, get_or, length, drop, slice_get, slice_index_or, refl, sym, ap, ◌∙◌, arith, inl, inr, add-one, All, AllPairs, Contains, IsNonDecreasingBy, IsPartitionPoint, option_map_or, fun_ext, cases_Bool, cases_eq, cases_lt, eq-eqb, eqb-true, false_from_ne_true, both_ways, leb-true, leb-false, nat_tests, get_or-drop, get_or-map, get_or_default, length-drop, length-map, All-head, All-tail}
+use Rattle.mls_geom.proofs.Definitions.{HasPiece, AreEvents, IsBefore, bottom_of, is_above, is_below, line_of, present_after, present_before, top_of, none, AreLegal, Step, Begins, Ends, Event, Piece}
+use Rattle.mls_geom.specs.Sweep.Events.{moved, pieces_of}
 use Rattle.mls_geom.proofs.BandRows.{EndsOutside, IsBand}
 use Rattle.mls_geom.proofs.ListLemmas.{IsSomeAnd-all, IsSomeAnd-both, IsSomeAnd-const, IsSomeAnd-weaker, option_map_or-true, IsSomeAnd-from_option_map_or, within-from_IsSomeAnd}
 

@@ -1,9 +1,5 @@
 -- Slots in the course of painting: those of a piece are filled with its kind.
-use Rattle.std.proofs.Common.{◌≡◌, ℕ, ◌-◌, ◌<◌, ◌≤◌, ◌&&◌, if◌then◌else◌, nat_le, nat_lt, Option, Some, None, List, length, drop, get_or, replicate, ap, inl, inr, arith, rules}
-use Rattle.std.specs.Option.{unwrap_or}
-use Rattle.std.proofs.lemmas.Bool.{cases_lt}
-use Rattle.std.proofs.lemmas.Bool.Decides.{nat_tests}
-use Rattle.std.proofs.lemmas.List.{length-drop, length-replicate, length-take-le, places}
+use Rattle.mls_geom.proofs.Common.{◌≡◌, ℕ, ◌-◌, ◌<◌, ◌≤◌, ◌&&◌, if◌then◌else◌, nat_le, nat_lt, Option, Some, None, List, length, drop, get_or, replicate, ap, inl, inr, arith, rules, unwrap_or, cases_lt, nat_tests, length-drop, length-replicate, length-take-le, places}
 use Rattle.mls_geom.specs.Locality.{uncovered}
 use Rattle.mls_geom.specs.Sweep.Slots.{HaveBytes, shown}
 use borrow.Rule.Slice.PartMut.{put_mid, same_len_mid}

@@ -1,15 +1,6 @@
 -- Pieces that a later one hides.
-use Rattle.std.proofs.Common.{◌≡◌, ℕ, zero, suc, ◌<◌, ◌⊎◌, true, List, [], ◌∷◌, ◌++◌, Any, inl, inr, refl, sym, ap, ◌∙◌, reverse, suc-le-suc, arith}
-use Rattle.std.proofs.Math.Path.{fun_ext}
-use Rattle.std.proofs.lemmas.Bool.{cases_Bool}
-use Rattle.std.proofs.lemmas.List.{reverse-append}
-use Rattle.std.proofs.lemmas.List.Elements.{All-cons}
-use Rattle.mls_geom.specs.Locality.{HaveKinds, uncovered}
-use Rattle.mls_geom.specs.Pictures.{Picture, overlaid, painted}
-use Rattle.mls_geom.specs.Rects.{Rect, IsRectangleIn, IsWithin, holds}
-use Rattle.mls_geom.specs.Sweep.Hidden.{ShowAlike}
-use Rattle.mls_geom.specs.World.{AreLegal, world}
-use Rattle.mls_geom.specs.declared.piece.Piece.{Piece}
+use Rattle.mls_geom.proofs.Common.{◌≡◌, ℕ, zero, suc, ◌<◌, ◌⊎◌, true, List, [], ◌∷◌, ◌++◌, Any, inl, inr, refl, sym, ap, ◌∙◌, reverse, suc-le-suc, arith, fun_ext, cases_Bool, reverse-append, All-cons}
+use Rattle.mls_geom.proofs.Definitions.{HaveKinds, uncovered, Picture, overlaid, painted, Rect, IsRectangleIn, IsWithin, holds, ShowAlike, AreLegal, world, Piece}
 use Rattle.mls_geom.proofs.InnerRects.{IsRectangleIn-within}
 use Rattle.mls_geom.proofs.Overlays.{overlaid-at, overlaid_append, painted_outside}
 use Rattle.mls_geom.proofs.PiecePictures.{holds_outer}

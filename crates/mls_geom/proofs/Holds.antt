@@ -1,6 +1,5 @@
 -- The squares of a rectangle by the test and by its lines.
-use Rattle.std.proofs.Common.{◌≡◌, ℕ, ◌<◌, ◌≤◌, ◌&&◌, true, arith}
-use Rattle.std.proofs.lemmas.Bool.Decides.{nat_tests}
+use Rattle.mls_geom.proofs.Common.{◌≡◌, ℕ, ◌<◌, ◌≤◌, ◌&&◌, true, arith, nat_tests}
 use Rattle.mls_geom.specs.Rects.{Rect, IsWithin, common, has_squares, holds}
 
 -- a square of the rectangle lies between its lines

@@ -1,6 +1,5 @@
 -- The smallest rectangle round two.
-use Rattle.std.proofs.Common.{◌≡◌, ℕ, true, arith}
-use Rattle.std.proofs.lemmas.Bool.Decides.{nat_tests}
+use Rattle.mls_geom.proofs.Common.{◌≡◌, ℕ, true, arith, nat_tests}
 use Rattle.mls_geom.specs.Rects.{Rect, IsRectangleIn, IsWithin, holds, joined}
 use Rattle.mls_geom.proofs.InnerRects.{IsRectangleIn-through, IsRectangleIn-within}
 

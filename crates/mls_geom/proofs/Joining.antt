@@ -1,14 +1,6 @@
 -- Runs of the covered squares of a row up to a line, and one more.
-use Rattle.std.proofs.Common.{◌≡◌, ◌≢◌, ℕ, ◌<◌, ◌≤◌, List, [], ◌∷◌, ◌++◌, inl, inr, arith, rules}
-use Rattle.std.proofs.lemmas.Bool.{cases_lt}
-use Rattle.std.proofs.lemmas.List.Elements.{All-push, All-weaker}
-use Rattle.std.proofs.lemmas.List.Quantifiers.{Any-push, all_pairs_push}
-use Rattle.mls_geom.specs.Locality.{uncovered}
-use Rattle.mls_geom.specs.Rects.{Rect}
-use Rattle.mls_geom.specs.Pictures.{Picture}
-use Rattle.mls_geom.specs.Strips.{IsRun}
-use Rattle.mls_geom.specs.Sweep.Changing.{AreRunsBefore}
-use Rattle.mls_geom.specs.declared.run.Run.{Run}
+use Rattle.mls_geom.proofs.Common.{◌≡◌, ◌≢◌, ℕ, ◌<◌, ◌≤◌, List, [], ◌∷◌, ◌++◌, inl, inr, arith, rules, cases_lt, All-push, All-weaker, Any-push, all_pairs_push}
+use Rattle.mls_geom.proofs.Definitions.{uncovered, Rect, Picture, IsRun, AreRunsBefore, Run}
 use Rattle.mls_geom.proofs.JoinedLists.{Any-append_left}
 
 -- left of the extent there is none

@@ -1,15 +1,6 @@
 -- What the sweep knows where a band begins.
 use Rattle.std.proofs.Common.{◌≡◌, ℕ, List, Result, Err, Vec, Global}
-use Rattle.mls_geom.specs.Sweep.Events.{AreEvents, ArePlanted, Awaits, line_of, present_before}
-use Rattle.mls_geom.specs.Sweep.Trees.{IsTree}
-use Rattle.mls_geom.specs.World.{AreLegal}
-use Rattle.mls_geom.specs.declared.chain.Step.{Step}
-use Rattle.mls_geom.specs.declared.events.Event.{Event}
-use Rattle.mls_geom.specs.declared.piece.Piece.{Piece}
-use Rattle.mls_geom.specs.declared.segment.Segment.{Segment}
-use Rattle.mls_geom.specs.declared.stopped.Stopped.TheVariants.{GaveUp, TooMany}
-use Rattle.mls_geom.specs.declared.stopped.Stopped.{Stopped}
-use Rattle.mls_geom.specs.declared.tree.Tree.{Tree}
+use Rattle.mls_geom.proofs.Definitions.{AreEvents, ArePlanted, Awaits, line_of, present_before, IsTree, AreLegal, Step, Event, Piece, Segment, GaveUp, TooMany, Stopped, Tree}
 
 pub awaits :
     (step : Step) (lines : List ℕ) (pieces : List Piece) (line at : ℕ) (events : List Event) (tree : Tree) (segments : Vec Segment Global) → line ≡ at → AreLegal pieces

@@ -1,19 +1,6 @@
 -- The runs of a row by their strips: they stay where a strip's top line is set and where a strip is added.
-use Rattle.std.proofs.Common.{◌≡◌, ℕ, ◌<◌, ◌≤◌, ◌==◌, nat_lt, nat_le, if◌then◌else◌, Bool, true, false, Some, List, [], length, get_or, set, map, All, slice_get, refl, ap, sym, ◌∙◌, le_refl, arith}
-use Rattle.std.specs.List.{AllWithin}
-use Rattle.std.specs.List.Sorted.{IsPartitionPoint, IsPartitionedBy}
-use Rattle.std.specs.Option.{option_map_or}
-use Rattle.std.proofs.lemmas.Bool.Decides.{nat_tests}
-use Rattle.std.proofs.lemmas.List.{get_or_default, get_or-map, length-map}
-use Rattle.std.proofs.lemmas.List.Elements.{All-nil}
-use Rattle.std.proofs.lemmas.Option.{slice_get-get_or}
-use Rattle.mls_geom.specs.Pictures.{Picture}
-use Rattle.mls_geom.specs.Sweep.Changing.{AreInOrder, IsChanging, begins_by, ends_before, runs_of, staged, strip_of}
-use Rattle.mls_geom.specs.Sweep.KeptRows.{IsKept, run_of, strip_at}
-use Rattle.mls_geom.specs.Sweep.Stacks.{extended}
-use Rattle.mls_geom.specs.World.{world}
-use Rattle.mls_geom.specs.declared.piece.Piece.{Piece}
-use Rattle.mls_geom.specs.declared.run.Run.{Run}
+use Rattle.mls_geom.proofs.Common.{◌≡◌, ℕ, ◌<◌, ◌≤◌, ◌==◌, nat_lt, nat_le, if◌then◌else◌, Bool, true, false, Some, List, [], length, get_or, set, map, All, slice_get, refl, ap, sym, ◌∙◌, le_refl, arith, AllWithin, IsPartitionPoint, IsPartitionedBy, option_map_or, nat_tests, get_or_default, get_or-map, length-map, All-nil, slice_get-get_or}
+use Rattle.mls_geom.proofs.Definitions.{Picture, AreInOrder, IsChanging, begins_by, ends_before, runs_of, staged, strip_of, IsKept, run_of, strip_at, extended, world, Piece, Run}
 use Rattle.mls_geom.proofs.CornerCounts.{nothing_stacked}
 use Rattle.mls_geom.proofs.RowRuns.{runs_ascend}
 use Rattle.mls_geom.proofs.StagedStrips.{run_of-extended, staged_right}

@@ -1,14 +1,6 @@
 -- The strips of a kept row, once the sweep has reached the world's top line.
-use Rattle.std.proofs.Common.{◌≡◌, ℕ, ◌<◌, ◌≤◌, min, List, length, map, ap, ◌∙◌, subst, arith, inl, inr}
-use Rattle.std.proofs.lemmas.Bool.{cases_lt}
-use Rattle.std.proofs.lemmas.List.{ext_get_or, get_or-map, length-map}
-use Rattle.std.proofs.lemmas.List.Elements.{All-contains}
-use Rattle.mls_geom.specs.Locality.{AreCoveredStrips}
-use Rattle.mls_geom.specs.Pictures.{Picture}
-use Rattle.mls_geom.specs.Sweep.KeptRows.{IsKept, lowered, strip_at}
-use Rattle.mls_geom.specs.Sweep.Stacks.{extended}
-use Rattle.mls_geom.specs.World.{world}
-use Rattle.mls_geom.specs.declared.piece.Piece.{Piece}
+use Rattle.mls_geom.proofs.Common.{◌≡◌, ℕ, ◌<◌, ◌≤◌, min, List, length, map, ap, ◌∙◌, subst, arith, inl, inr, cases_lt, ext_get_or, get_or-map, length-map, All-contains}
+use Rattle.mls_geom.proofs.Definitions.{AreCoveredStrips, Picture, IsKept, lowered, strip_at, extended, world, Piece}
 
 -- strips that reach no further than the line are as they are below it
 lowered_all : (y : ℕ) (strips : List Piece) → ((k : ℕ) → k < length strips → (strip_at strips k).rect.top ≤ y) → map (lowered y) strips ≡ strips

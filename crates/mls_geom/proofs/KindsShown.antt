@@ -1,10 +1,6 @@
 -- The kinds of the squares of a rectangle, and rectangles that have a square in common.
-use Rattle.std.proofs.Common.{◌≡◌, ℕ, max, ◌==◌, true, eq-eqb, eqb-true, arith}
-use Rattle.std.specs.List.{list_any}
-use Rattle.std.proofs.lemmas.Bool.Decides.{nat_tests}
-use Rattle.std.proofs.lemmas.List.Folds.{Any-from_list_any, list_any-from_Any}
-use Rattle.mls_geom.specs.Rects.{Rect, holds, meets}
-use Rattle.mls_geom.specs.Pictures.{Picture, columns, rows, shows}
+use Rattle.mls_geom.proofs.Common.{◌≡◌, ℕ, max, ◌==◌, true, eq-eqb, eqb-true, arith, list_any, nat_tests, Any-from_list_any, list_any-from_Any}
+use Rattle.mls_geom.proofs.Definitions.{Rect, holds, meets, Picture, columns, rows, shows}
 use Rattle.mls_geom.proofs.Holds.{between_holds, holds_between}
 use Rattle.mls_geom.proofs.Squares.{Contains-range_with_len, range_with_len-Contains}
 

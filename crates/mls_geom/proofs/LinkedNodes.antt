@@ -1,12 +1,6 @@
 -- The chains of a segment tree's nodes, where one of them changes.
-use Rattle.std.proofs.Common.{◌≡◌, ◌≢◌, ℕ, ◌<◌, ◌≤◌, nat_lt, nat_le, ◌==◌, true, false, if◌then◌else◌, Option, List, [], ◌∷◌, length, inl, inr, arith}
-use Rattle.std.proofs.lemmas.Bool.{cases_eq, cases_lt}
-use Rattle.std.proofs.lemmas.Bool.Decides.{nat_tests}
-use Rattle.mls_geom.specs.Sweep.Chains.{Each, IsChain, IsFalling, linked, outliving, rank_of, stepped}
-use Rattle.mls_geom.specs.Sweep.Trees.{AreLinked, IsLinked, node_at}
-use Rattle.mls_geom.specs.declared.chain.Step.{Step}
-use Rattle.mls_geom.specs.declared.chain.Step.TheVariants.{Begins, Ends}
-use Rattle.mls_geom.specs.declared.tree.Tree.{Tree}
+use Rattle.mls_geom.proofs.Common.{◌≡◌, ◌≢◌, ℕ, ◌<◌, ◌≤◌, nat_lt, nat_le, ◌==◌, true, false, if◌then◌else◌, Option, List, [], ◌∷◌, length, inl, inr, arith, cases_eq, cases_lt, nat_tests}
+use Rattle.mls_geom.proofs.Definitions.{Each, IsChain, IsFalling, linked, outliving, rank_of, stepped, AreLinked, IsLinked, node_at, Step, Begins, Ends, Tree}
 use Rattle.mls_geom.proofs.EachOfChain.{Each-weaker, Each-outliving, Each-linked, Each-stepped, either, outliving-passed, unlinked-passed}
 
 -- those that outlive the piece lie under it, where the first one doesn't lie over it

@@ -1,10 +1,5 @@
 -- Lists of which one element is replaced, or to which one is added at the end.
-use Rattle.std.proofs.Common.{◌≢◌, ℕ, zero, suc, ◌<◌, List, [], ◌∷◌, ◌++◌, length, get_or, set, All, slice_get, IsSomeAnd, inl, inr, ◌∙◌, suc-le-suc, le_of_suc-le-suc, arith, get_or-set_other, length-append, length-set}
-use Rattle.std.specs.List.{AllPairs, Any, HoldsAt}
-use Rattle.std.proofs.lemmas.Bool.{cases_eq}
-use Rattle.std.proofs.lemmas.Grind.{get_or-set_at}
-use Rattle.std.proofs.lemmas.List.{get_or_append_left, get_or_default}
-use Rattle.std.proofs.lemmas.List.Quantifiers.{any-set}
+use Rattle.mls_geom.proofs.Common.{◌≢◌, ℕ, zero, suc, ◌<◌, List, [], ◌∷◌, ◌++◌, length, get_or, set, All, slice_get, IsSomeAnd, inl, inr, ◌∙◌, suc-le-suc, le_of_suc-le-suc, arith, get_or-set_other, length-append, length-set, AllPairs, Any, HoldsAt, cases_eq, get_or-set_at, get_or_append_left, get_or_default, any-set}
 
 -- what holds of the new element and of each other one
 pub All-set_others :

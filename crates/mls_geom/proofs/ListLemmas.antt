@@ -1,15 +1,5 @@
 -- Lists and what an index in a list holds.
-use Rattle.std.proofs.Common.{◌≡◌, ℕ, zero, suc, ◌+◌, ◌<◌, Bool, true, false, nat_eq, List, [], ◌∷◌, ◌++◌, length, slice_get, All, Option, None, Some, refl, sym, ap, subst, ◌∙◌, arith, inl, inr}
-use Rattle.std.specs.List.{AllByRecursion, Contains, IsDistinct, filter, range_with_len}
-use Rattle.std.specs.List.Sorted.{IsNonDecreasingBy, IsPermutation}
-use Rattle.std.specs.Option.{IsSomeAnd, option_map_or}
-use Rattle.std.proofs.lemmas.Bool.{ne_eqb, cond-true, cond_both}
-use Rattle.std.proofs.lemmas.Bool.Decides.{nat_tests}
-use Rattle.std.proofs.lemmas.List.{take_at, drop_at, get_or_append_left, length-append, map-id}
-use Rattle.std.proofs.lemmas.List.Elements.{All-drop, All-head, All-tail, All-take, Contains-append_cases, Contains-append_left, Contains-append_right}
-use Rattle.std.proofs.lemmas.List.FromFn.{length-range_with_len, get_or-range_with_len, map-range_with_len_more}
-use Rattle.std.proofs.lemmas.List.Sorted.{IsNonDecreasingBy-drop}
-use Rattle.std.proofs.lemmas.Map.Keys.{apart_from_distinct, IsDistinct-IsPermutation, IsDistinct-from_apart, IsDistinct-head, IsDistinct-tail, IsDistinct-cons}
+use Rattle.mls_geom.proofs.Common.{◌≡◌, ℕ, zero, suc, ◌+◌, ◌<◌, Bool, true, false, nat_eq, List, [], ◌∷◌, ◌++◌, length, slice_get, All, Option, None, Some, refl, sym, ap, subst, ◌∙◌, arith, inl, inr, AllByRecursion, Contains, IsDistinct, filter, range_with_len, IsNonDecreasingBy, IsPermutation, IsSomeAnd, option_map_or, ne_eqb, cond-true, cond_both, nat_tests, take_at, drop_at, get_or_append_left, length-append, map-id, All-drop, All-head, All-tail, All-take, Contains-append_cases, Contains-append_left, Contains-append_right, length-range_with_len, get_or-range_with_len, map-range_with_len_more, IsNonDecreasingBy-drop, apart_from_distinct, IsDistinct-IsPermutation, IsDistinct-from_apart, IsDistinct-head, IsDistinct-tail, IsDistinct-cons}
 
 -- what follows from a fact, or two facts, of the value that is there
 pub IsSomeAnd-weaker : {X : Type 0} (o : Option X) (P Q : X → Type 0) → ((x : X) → P x → Q x) → IsSomeAnd o P → IsSomeAnd o Q

@@ -1,13 +1,6 @@
 -- The list that is made from the squares of a picture has its strips.
-use Rattle.std.proofs.Common.{◌≡◌, ℕ, zero, suc, ◌+◌, ◌-◌, ◌<◌, ◌≤◌, ◌==◌, true, false, not, IsTrue, get_or, Any, Contains, sym, ap, subst, ⊎_elim, ◌∙◌, le_refl, arith}
-use Rattle.std.proofs.lemmas.Bool.{and_from, and_parts, both_ways, cases_Bool, cases_lt, eq-eqb, eqb-true, false_from_ne_true, not_from_false, not-false, not-true, or_left, or_parts}
-use Rattle.std.proofs.lemmas.List.Elements.{All-map}
-use Rattle.mls_geom.specs.Rects.{Rect, holds}
-use Rattle.mls_geom.specs.Pictures.{Picture}
-use Rattle.mls_geom.specs.StripLists.{has_run_of, rows_end, strip_from, strips_of}
-use Rattle.mls_geom.specs.Strips.{IsRun, IsStrip, AreStrips, comes_before}
-use Rattle.mls_geom.specs.TileCounts.{goes_on_below, is_corner, run_end, starts_run}
-use Rattle.mls_geom.specs.declared.piece.Piece.{Piece}
+use Rattle.mls_geom.proofs.Common.{◌≡◌, ℕ, zero, suc, ◌+◌, ◌-◌, ◌<◌, ◌≤◌, ◌==◌, true, false, not, IsTrue, get_or, Any, Contains, sym, ap, subst, ⊎_elim, ◌∙◌, le_refl, arith, and_from, and_parts, both_ways, cases_Bool, cases_lt, eq-eqb, eqb-true, false_from_ne_true, not_from_false, not-false, not-true, or_left, or_parts, All-map}
+use Rattle.mls_geom.proofs.Definitions.{Rect, holds, Picture, has_run_of, rows_end, strip_from, strips_of, IsRun, IsStrip, AreStrips, comes_before, goes_on_below, is_corner, run_end, starts_run, Piece}
 use Rattle.mls_geom.proofs.Ascending.{AllPairs-map, Contains-map}
 use Rattle.mls_geom.proofs.Holds.{holds_between, between_holds}
 use Rattle.mls_geom.proofs.RunTests.{IsRun-below, IsRun-from_tests, front_begins, front_ends, front_passes, front_stops, goes_on_below-IsRun, run_end-IsRun, starts_run-IsRun}

@@ -1,9 +1,5 @@
 -- Lists whose elements are mapped.
-use Rattle.std.proofs.Common.{◌≡◌, ◌≢◌, ℕ, ◌<◌, List, [], ◌∷◌, length, get_or, set, map, All, sym, ap, refl, ◌∙◌, inl, inr, arith, get_or-set_other, length-set}
-use Rattle.std.specs.List.{AllPairs}
-use Rattle.std.proofs.lemmas.Bool.{cases_eq}
-use Rattle.std.proofs.lemmas.Grind.{get_or-set_at}
-use Rattle.std.proofs.lemmas.List.{ext_get_or, get_or-map, length-map, map-set}
+use Rattle.mls_geom.proofs.Common.{◌≡◌, ◌≢◌, ℕ, ◌<◌, List, [], ◌∷◌, length, get_or, set, map, All, sym, ap, refl, ◌∙◌, inl, inr, arith, get_or-set_other, length-set, AllPairs, cases_eq, get_or-set_at, ext_get_or, get_or-map, length-map, map-set}
 
 -- functions that agree on each element make one list of it
 pub map_alike :

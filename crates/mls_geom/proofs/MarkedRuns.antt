@@ -1,13 +1,6 @@
 -- The slots that marks change, with those of the runs that they meet or touch.
-use Rattle.std.proofs.Common.{◌≡◌, ℕ, ◌+◌, ◌-◌, ◌<◌, ◌≤◌, min, max, List, length, get_or, slice_index, inl, inr, le_refl, arith}
-use Rattle.std.specs.List.{AllWithin}
-use Rattle.std.specs.List.Sorted.{IsNonDecreasingBy, IsStrictlyIncreasing}
-use Rattle.std.proofs.lemmas.Bool.{cases_lt}
-use Rattle.std.proofs.lemmas.List.Kept.{AllPairs-from_increasing}
-use Rattle.mls_geom.specs.Sweep.Changing.{AreInOrder, AreMet, IsChange, IsChangeOf}
-use Rattle.mls_geom.specs.Sweep.KeptRows.{AreMarks}
-use Rattle.mls_geom.specs.declared.part.Span.{Span}
-use Rattle.mls_geom.specs.declared.run.Run.{Run}
+use Rattle.mls_geom.proofs.Common.{◌≡◌, ℕ, ◌+◌, ◌-◌, ◌<◌, ◌≤◌, min, max, List, length, get_or, slice_index, inl, inr, le_refl, arith, AllWithin, IsNonDecreasingBy, IsStrictlyIncreasing, cases_lt, AllPairs-from_increasing}
+use Rattle.mls_geom.proofs.Definitions.{AreInOrder, AreMet, IsChange, IsChangeOf, AreMarks, Span, Run}
 use Rattle.mls_geom.proofs.CutLines.{rises}
 use Rattle.mls_geom.proofs.RowRuns.{runs_ascend}
 

@@ -1,10 +1,6 @@
 -- Pieces painted over a picture, in turn.
-use Rattle.std.proofs.Common.{◌≡◌, ℕ, zero, suc, ◌<◌, true, false, if◌then◌else◌, List, [], ◌∷◌, ◌++◌, length, get_or, All, Any, refl, ap, suc-le-suc, le_of_suc-le-suc, ◌∙◌, arith}
-use Rattle.std.proofs.lemmas.Bool.{cond-true, cond-false, cond_both}
-use Rattle.std.proofs.lemmas.List.Elements.{All-from_get_or, All-head, All-tail}
-use Rattle.mls_geom.specs.Rects.{holds}
-use Rattle.mls_geom.specs.Pictures.{Picture, painted, overlaid}
-use Rattle.mls_geom.specs.declared.piece.Piece.{Piece}
+use Rattle.mls_geom.proofs.Common.{◌≡◌, ℕ, zero, suc, ◌<◌, true, false, if◌then◌else◌, List, [], ◌∷◌, ◌++◌, length, get_or, All, Any, refl, ap, suc-le-suc, le_of_suc-le-suc, ◌∙◌, arith, cond-true, cond-false, cond_both, All-from_get_or, All-head, All-tail}
+use Rattle.mls_geom.proofs.Definitions.{holds, Picture, painted, overlaid, Piece}
 
 -- pieces painted after others
 pub overlaid_append : (below : Picture) (xs ys : List Piece) → overlaid below (xs ++ ys) ≡ overlaid (overlaid below xs) ys

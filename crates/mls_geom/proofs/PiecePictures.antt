@@ -1,9 +1,6 @@
 -- What pieces show.
-use Rattle.std.proofs.Common.{◌≡◌, ℕ, true, false, List, ◌++◌, get_or, All, arith}
-use Rattle.std.proofs.lemmas.Bool.{both_ways, false_from_ne_true}
-use Rattle.mls_geom.specs.Rects.{Rect, IsRectangleIn, holds}
-use Rattle.mls_geom.specs.Pictures.{empty_picture, overlaid, picture_of}
-use Rattle.mls_geom.specs.declared.piece.Piece.{Piece}
+use Rattle.mls_geom.proofs.Common.{◌≡◌, ℕ, true, false, List, ◌++◌, get_or, All, arith, both_ways, false_from_ne_true}
+use Rattle.mls_geom.proofs.Definitions.{Rect, IsRectangleIn, holds, empty_picture, overlaid, picture_of, Piece}
 use Rattle.mls_geom.proofs.Holds.{holds_between, between_holds}
 use Rattle.mls_geom.proofs.Overlays.{overlaid_append, overlaid_outside}
 

@@ -1,24 +1,6 @@
 -- Pieces planted in a tree, and what they show.
-use Rattle.std.proofs.Common.{◌≡◌, ℕ, zero, suc, ◌+◌, ◌-◌, ◌<◌, ◌≤◌, ◌==◌, ◌&&◌, nat_le, nat_lt, if◌then◌else◌, true, false, List, [], ◌∷◌, ◌++◌, Option, Some, None, get_or, length, slice_get, slice_index, refl, sym, ap, ◌∙◌, subst, arith, inl, inr}
-use Rattle.std.specs.List.Sorted.{IsStrictlyIncreasing}
-use Rattle.std.specs.Option.{IfNone, IsSome}
-use Rattle.std.proofs.lemmas.Bool.{and_from, both_ways, cases_Bool, cases_eq, cases_lt, false_from_ne_true, ne_eqb, not-true}
-use Rattle.std.proofs.lemmas.Bool.Decides.{nat_tests}
-use Rattle.std.proofs.lemmas.List.{get_or_append_left, get_or_push, length-append}
-use Rattle.std.proofs.lemmas.Option.{slice_get-get_or, slice_get_cases, slice_get_read}
-use Rattle.mls_geom.specs.Rects.{holds}
-use Rattle.mls_geom.specs.Locality.{HaveKinds, laid, uncovered}
-use Rattle.mls_geom.specs.Sweep.ActivePieces.{HasPiece}
-use Rattle.mls_geom.specs.Sweep.Events.{AreEvents, ArePlanted, HaveChangedTops, IsNext, IsPlanted, is_above, is_below, is_met, line_of, present_before, top_of}
-use Rattle.mls_geom.specs.Sweep.KeptRows.{HaveChanges, ShowsRow, kind_if_covered}
-use Rattle.mls_geom.specs.Sweep.Trees.{EndsFirst, end_of, IsTop, has_slot, kind_of, kind_shown, none, segment_at, span_of}
-use Rattle.mls_geom.specs.World.{AreLegal, world}
-use Rattle.mls_geom.specs.declared.chain.Step.{Step}
-use Rattle.mls_geom.specs.declared.chain.Step.TheVariants.{Begins, Ends}
-use Rattle.mls_geom.specs.declared.events.Event.{Event}
-use Rattle.mls_geom.specs.declared.part.Span.{Span}
-use Rattle.mls_geom.specs.declared.piece.Piece.{Piece}
-use Rattle.mls_geom.specs.declared.segment.Segment.{Segment}
+use Rattle.mls_geom.proofs.Common.{◌≡◌, ℕ, zero, suc, ◌+◌, ◌-◌, ◌<◌, ◌≤◌, ◌==◌, ◌&&◌, nat_le, nat_lt, if◌then◌else◌, true, false, List, [], ◌∷◌, ◌++◌, Option, Some, None, get_or, length, slice_get, slice_index, refl, sym, ap, ◌∙◌, subst, arith, inl, inr, IsStrictlyIncreasing, IfNone, IsSome, and_from, both_ways, cases_Bool, cases_eq, cases_lt, false_from_ne_true, ne_eqb, not-true, nat_tests, get_or_append_left, get_or_push, length-append, slice_get-get_or, slice_get_cases, slice_get_read}
+use Rattle.mls_geom.proofs.Definitions.{holds, HaveKinds, laid, uncovered, HasPiece, AreEvents, ArePlanted, HaveChangedTops, IsNext, IsPlanted, is_above, is_below, is_met, line_of, present_before, top_of, HaveChanges, ShowsRow, kind_if_covered, EndsFirst, end_of, IsTop, has_slot, kind_of, kind_shown, none, segment_at, span_of, AreLegal, world, Step, Begins, Ends, Event, Span, Piece, Segment}
 use Rattle.mls_geom.proofs.CutLines.{holds-indices}
 use Rattle.mls_geom.proofs.EventSteps.{IsPartedAt, after_events, begins_later, comes_later, event_at, is_below-bottom, is_below-next, is_named, line_has, piece_known}
 use Rattle.mls_geom.proofs.ListLemmas.{IsSomeAnd-const, IsSomeAnd-from_option_map_or, IsSomeAnd-weaker, within-from_IsSomeAnd}

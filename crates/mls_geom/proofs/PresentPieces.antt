@@ -1,6 +1,5 @@
 -- The present pieces with one more, and with one less.
-use Rattle.std.proofs.Common.{◌≡◌, ◌≢◌, ℕ, ◌==◌, ◌⊎◌, not, Bool, true, inl, inr, refl, sym, ap, ◌∙◌, ne_eqb, eq-eqb, eqb-true}
-use Rattle.std.proofs.lemmas.Bool.{false≢true, or_cases, and_parts, or_right}
+use Rattle.mls_geom.proofs.Common.{◌≡◌, ◌≢◌, ℕ, ◌==◌, ◌⊎◌, not, Bool, true, inl, inr, refl, sym, ap, ◌∙◌, ne_eqb, eq-eqb, eqb-true, false≢true, or_cases, and_parts, or_right}
 use Rattle.mls_geom.specs.Sweep.Trees.{with_piece, without_piece}
 
 -- with one more all that were present are

@@ -1,19 +1,6 @@
 -- A kept row while it is changed from left to right.
-use Rattle.std.proofs.Common.{◌≡◌, ◌≢◌, ℕ, ◌+◌, ◌-◌, ◌<◌, ◌≤◌, List, [], ◌∷◌, ◌++◌, length, get_or, set, map, All, ◌⊎◌, IsSomeAnd, slice_get, le_refl, inl, inr, sym, ap, refl, ◌∙◌, arith, length-set}
-use Rattle.std.specs.List.{AllWithin, Contains}
-use Rattle.std.proofs.lemmas.Bool.{cases_eq, cases_lt, cases_order}
-use Rattle.std.proofs.lemmas.List.{get_or-map, get_or_push, get_or-set_same, length-map, length_push, map-append, set-get_or, set-set}
-use Rattle.std.proofs.lemmas.List.Elements.{AllWithin-none, All-contains, All-map, All-push, Contains-append_left, Contains-get_or, Contains-push}
-use Rattle.std.proofs.lemmas.Option.{slice_get-get_or, slice_get-map}
-use Rattle.mls_geom.specs.Locality.{covered_count, uncovered}
-use Rattle.mls_geom.specs.Pictures.{Picture}
-use Rattle.mls_geom.specs.Strips.{IsRun, IsStrip}
-use Rattle.mls_geom.specs.Sweep.Changing.{IsChanging, IsPartlyStacked, staged, strip_of}
-use Rattle.mls_geom.specs.Sweep.KeptRows.{IsKept, lowered, run_of, strip_at}
-use Rattle.mls_geom.specs.Sweep.Stacks.{AreAlike, ReachesUp, extended, new_strip, up_to}
-use Rattle.mls_geom.specs.World.{world}
-use Rattle.mls_geom.specs.declared.piece.Piece.{Piece}
-use Rattle.mls_geom.specs.declared.run.Run.{Run}
+use Rattle.mls_geom.proofs.Common.{◌≡◌, ◌≢◌, ℕ, ◌+◌, ◌-◌, ◌<◌, ◌≤◌, List, [], ◌∷◌, ◌++◌, length, get_or, set, map, All, ◌⊎◌, IsSomeAnd, slice_get, le_refl, inl, inr, sym, ap, refl, ◌∙◌, arith, length-set, AllWithin, Contains, cases_eq, cases_lt, cases_order, get_or-map, get_or_push, get_or-set_same, length-map, length_push, map-append, set-get_or, set-set, AllWithin-none, All-contains, All-map, All-push, Contains-append_left, Contains-get_or, Contains-push, slice_get-get_or, slice_get-map}
+use Rattle.mls_geom.proofs.Definitions.{covered_count, uncovered, Picture, IsRun, IsStrip, IsChanging, IsPartlyStacked, staged, strip_of, IsKept, lowered, run_of, strip_at, AreAlike, ReachesUp, extended, new_strip, up_to, world, Piece, Run}
 use Rattle.mls_geom.proofs.Joining.{AreRunsBefore-none, AreRunsBefore-push, AreRunsBefore-uncovered}
 use Rattle.mls_geom.proofs.MappedLists.{All-from_map, map_alike, map_alike_but_one, map_none}
 use Rattle.mls_geom.proofs.RowRuns.{AreRuns-alike, run_listed}

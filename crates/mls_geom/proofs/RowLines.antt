@@ -1,12 +1,6 @@
 -- The lines that cut a row: those of the extent and of the pieces that the row meets.
-use Rattle.std.proofs.Common.{◌≡◌, ℕ, ◌+◌, ◌-◌, ◌<◌, ◌≤◌, ◌↔◌, List, [], ◌∷◌, ◌++◌, Option, Some, None, length, take, get_or, slice_index, slice_get, IsSomeAnd, refl, ◌∙◌, arith, rules}
-use Rattle.std.specs.List.{All, Contains}
-use Rattle.std.specs.List.Sorted.{IsStrictlyIncreasing}
-use Rattle.std.proofs.lemmas.List.{get_or_default}
-use Rattle.std.proofs.lemmas.List.Elements.{All-contains, All-cons, All-more, All-nil, All-push, Contains-append_left, Contains-get_or, Contains-push}
-use Rattle.mls_geom.specs.Rects.{Rect}
-use Rattle.mls_geom.specs.Sweep.Slots.{AreBetweenLines, AreCuts, IsBetweenLines}
-use Rattle.mls_geom.specs.declared.piece.Piece.{Piece}
+use Rattle.mls_geom.proofs.Common.{◌≡◌, ℕ, ◌+◌, ◌-◌, ◌<◌, ◌≤◌, ◌↔◌, List, [], ◌∷◌, ◌++◌, Option, Some, None, length, take, get_or, slice_index, slice_get, IsSomeAnd, refl, ◌∙◌, arith, rules, All, Contains, IsStrictlyIncreasing, get_or_default, All-contains, All-cons, All-more, All-nil, All-push, Contains-append_left, Contains-get_or, Contains-push}
+use Rattle.mls_geom.proofs.Definitions.{Rect, AreBetweenLines, AreCuts, IsBetweenLines, Piece}
 use Rattle.mls_geom.proofs.CutLines.{rises}
 
 -- what holds of a value that there is, if it follows from what holds of it already

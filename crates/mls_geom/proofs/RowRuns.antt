@@ -1,17 +1,6 @@
 -- The runs of a row: a square lies in one only, and between the runs of a list of them no square is covered.
-use Rattle.std.proofs.Common.{◌≡◌, ◌≢◌, ℕ, ◌+◌, ◌-◌, ◌<◌, ◌≤◌, List, length, get_or, set, map, le_refl, sym, ap, ◌∙◌, arith, inl, inr}
-use Rattle.std.specs.List.{Any}
-use Rattle.std.proofs.lemmas.Bool.{cases_eq, cases_lt}
-use Rattle.std.proofs.lemmas.List.{get_or-map, get_or_past, length-map, map-set, set-get_or}
-use Rattle.std.proofs.lemmas.List.Elements.{All-map, All-set}
-use Rattle.mls_geom.specs.Rects.{Rect}
-use Rattle.mls_geom.specs.Pictures.{Picture}
-use Rattle.mls_geom.specs.Locality.{uncovered}
-use Rattle.mls_geom.specs.Sweep.Changing.{AreInOrder}
-use Rattle.mls_geom.specs.Sweep.Rows.{AreRuns}
-use Rattle.mls_geom.specs.Sweep.Stacks.{up_to}
-use Rattle.mls_geom.specs.Strips.{IsRun}
-use Rattle.mls_geom.specs.declared.run.Run.{Run}
+use Rattle.mls_geom.proofs.Common.{◌≡◌, ◌≢◌, ℕ, ◌+◌, ◌-◌, ◌<◌, ◌≤◌, List, length, get_or, set, map, le_refl, sym, ap, ◌∙◌, arith, inl, inr, Any, cases_eq, cases_lt, get_or-map, get_or_past, length-map, map-set, set-get_or, All-map, All-set}
+use Rattle.mls_geom.proofs.Definitions.{Rect, Picture, uncovered, AreInOrder, AreRuns, up_to, IsRun, Run}
 use Rattle.mls_geom.proofs.ListChanges.{AllPairs-set, Any-set_kept}
 
 -- the rows of the extent don't matter to a run

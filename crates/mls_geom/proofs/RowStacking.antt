@@ -1,20 +1,8 @@
 -- The runs of a band's row, as many as are stacked from left to right, with the strips that they and the runs below name.
-use Rattle.std.proofs.Common.{◌≡◌, ℕ, ◌+◌, ◌-◌, ◌<◌, ◌≤◌, List, [], ◌∷◌, ◌++◌, length, get_or, set, take, All, IsSomeAnd, IfSome, slice_get, inl, inr, refl, ◌∙◌, arith}
-use Rattle.std.specs.List.{AllWithin, HoldsAt}
-use Rattle.std.proofs.lemmas.Bool.{cases_lt, cases_order}
-use Rattle.std.proofs.lemmas.Option.{slice_get-get_or}
-use Rattle.std.proofs.lemmas.List.{get_or_default, take_all, take_more_set}
-use Rattle.std.proofs.lemmas.List.Elements.{All-push, All-weaker}
-use Rattle.mls_geom.specs.Rects.{Rect}
-use Rattle.mls_geom.specs.Pictures.{Picture}
-use Rattle.mls_geom.specs.Sweep.Rows.{AreRuns}
-use Rattle.mls_geom.specs.Sweep.Stacks.{AreStacked, AreAlike, NameStrips, ReachesUp, StandsOn, new_strip, extended, up_to}
-use Rattle.mls_geom.specs.Locality.{covered_count}
-use Rattle.mls_geom.specs.declared.piece.Piece.{Piece}
-use Rattle.mls_geom.specs.declared.run.Run.{Run}
+use Rattle.mls_geom.proofs.Common.{◌≡◌, ℕ, ◌+◌, ◌-◌, ◌<◌, ◌≤◌, List, [], ◌∷◌, ◌++◌, length, get_or, set, take, All, IsSomeAnd, IfSome, slice_get, inl, inr, refl, ◌∙◌, arith, AllWithin, HoldsAt, cases_lt, cases_order, slice_get-get_or, get_or_default, take_all, take_more_set, All-push, All-weaker}
+use Rattle.mls_geom.proofs.Definitions.{Rect, Picture, AreRuns, AreStacked, AreAlike, NameStrips, ReachesUp, StandsOn, new_strip, extended, up_to, covered_count, Piece, Run, IsBand, IsPartlyStacked}
 use Rattle.mls_geom.proofs.ListChanges.{IsSomeAnd-append, IsSomeAnd-push, IsSomeAnd-set, IsSomeAnd-set_same, at_IsSomeAnd}
 use Rattle.mls_geom.proofs.RowRuns.{AreInOrder-runs, AreOneRun, AreRuns-alike, AreRuns-set, left_line, left_line-from, left_line-next, left_line-past, left_line-set, left_line-within, named, run_listed, runs_ascend, uncovered-between}
-use Rattle.mls_geom.specs.Sweep.Changing.{IsBand, IsPartlyStacked}
 use Rattle.mls_geom.proofs.Stacking.{BeginsAt, IsPartlyStacked-new_strip, IsPartlyStacked-end, IsPartlyStacked-extended, IsPartlyStacked-start, IsPartlyStacked-uncovered, length-lt-covered_count}
 
 -- of the band's row the first n runs are stacked, and of the runs below it those before the index are passed

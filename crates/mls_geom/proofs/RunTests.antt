@@ -1,14 +1,6 @@
 -- Runs of a row by their record and by the tests on squares.
-use Rattle.std.proofs.Common.{◌≡◌, ℕ, ◌+◌, ◌-◌, ◌<◌, ◌≤◌, Bool, true, false, ◌==◌, length, refl, sym, ap, subst₂, ◌∙◌, le_refl, lt_of_lt_of_le, arith, lt-ltb, ltb-true, eq-eqb, ne_eqb, eqb-true}
-use Rattle.std.specs.List.{prefix_len, range_with_len}
-use Rattle.std.proofs.lemmas.Bool.{eqb-false, and_from, and_parts}
-use Rattle.std.proofs.lemmas.Bool.Decides.{nat_tests}
-use Rattle.std.proofs.lemmas.List.FromFn.{length-range_with_len, get_or-range_with_len}
-use Rattle.std.proofs.lemmas.List.Sums.{prefix_len_is, prefix_len_passes, prefix_len_stops, prefix_len-drop_yes, prefix_len-le-length}
-use Rattle.mls_geom.specs.Rects.{Rect}
-use Rattle.mls_geom.specs.Pictures.{Picture}
-use Rattle.mls_geom.specs.Strips.{IsRun}
-use Rattle.mls_geom.specs.TileCounts.{starts_run, run_end, goes_on_below}
+use Rattle.mls_geom.proofs.Common.{◌≡◌, ℕ, ◌+◌, ◌-◌, ◌<◌, ◌≤◌, Bool, true, false, ◌==◌, length, refl, sym, ap, subst₂, ◌∙◌, le_refl, lt_of_lt_of_le, arith, lt-ltb, ltb-true, eq-eqb, ne_eqb, eqb-true, prefix_len, range_with_len, eqb-false, and_from, and_parts, nat_tests, length-range_with_len, get_or-range_with_len, prefix_len_is, prefix_len_passes, prefix_len_stops, prefix_len-drop_yes, prefix_len-le-length}
+use Rattle.mls_geom.proofs.Definitions.{Rect, Picture, IsRun, starts_run, run_end, goes_on_below}
 
 -- of the numbers from one line to another the first ones pass a test: they end at the number before which all pass, and which does not
 pub front : (p : ℕ → Bool) (low high stop : ℕ) → low ≤ stop → stop ≤ high → ((z : ℕ) → low ≤ z → z < stop → p z ≡ true) → (stop < high → p stop ≡ false)

@@ -1,10 +1,7 @@
 -- Squares of rectangles that are shifted or deepened in a direction.
-use Rattle.std.proofs.Common.{◌≡◌, ℕ, ◌+◌, ◌-◌, ◌<◌, ◌≤◌, true, Bool, nat_lt, refl, arith}
-use Rattle.std.proofs.lemmas.Bool.Decides.{nat_tests}
-use Rattle.mls_geom.specs.Directions.{back, deepened, moved, shifted}
-use Rattle.mls_geom.specs.Rects.{Rect, Point, holds}
-use Rattle.mls_geom.specs.declared.direction.Direction.{Direction}
-use Rattle.mls_geom.specs.declared.direction.Direction.TheVariants.{Right, Up, Left, Down}
+use Rattle.mls_geom.proofs.Common.{◌≡◌, ℕ, ◌+◌, ◌-◌, ◌<◌, ◌≤◌, true, Bool, nat_lt, refl, arith, nat_tests}
+use Rattle.mls_geom.proofs.Definitions.{back, deepened, shifted, Rect, Point, holds, Direction, Right, Up, Left, Down}
+use Rattle.mls_geom.specs.Directions.{moved}
 use Rattle.mls_geom.proofs.Holds.{holds_between, between_holds}
 
 -- the square at a column and a row

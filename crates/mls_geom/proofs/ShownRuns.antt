@@ -1,19 +1,6 @@
 -- Slots that show alike, up to where that ends, are a run of the row, or uncovered.
-use Rattle.std.proofs.Common.{◌≡◌, ◌≢◌, ℕ, ◌+◌, ◌-◌, ◌<◌, ◌≤◌, ◌==◌, Bool, true, false, not, nat_eq, if◌then◌else◌, Option, Some, None, List, length, slice_index, inl, inr, refl, sym, ap, ◌∙◌, le_refl, arith}
-use Rattle.std.specs.Option.{option_eq}
-use Rattle.std.proofs.lemmas.Bool.{cases_lt, false≢true, not-false, not-true}
-use Rattle.std.proofs.lemmas.Bool.Decides.{nat_tests}
-use Rattle.std.proofs.lemmas.List.Kept.{AllPairs-from_increasing}
-use Rattle.mls_geom.specs.Locality.{uncovered}
-use Rattle.mls_geom.specs.Pictures.{Picture}
-use Rattle.mls_geom.specs.Strips.{IsRun}
-use Rattle.mls_geom.specs.Sweep.Changing.{IsEnd, ShowsSlots}
-use Rattle.mls_geom.specs.Sweep.KeptRows.{kind_if_covered}
-use Rattle.mls_geom.specs.Sweep.Slots.{AreCuts}
-use Rattle.mls_geom.specs.Sweep.Trees.{IsTop, kind_shown}
-use Rattle.mls_geom.specs.World.{world}
-use Rattle.mls_geom.specs.declared.part.Span.{Span}
-use Rattle.mls_geom.specs.declared.tree.Tree.{Tree}
+use Rattle.mls_geom.proofs.Common.{◌≡◌, ◌≢◌, ℕ, ◌+◌, ◌-◌, ◌<◌, ◌≤◌, ◌==◌, Bool, true, false, not, nat_eq, if◌then◌else◌, Option, Some, None, List, length, slice_index, inl, inr, refl, sym, ap, ◌∙◌, le_refl, arith, option_eq, cases_lt, false≢true, not-false, not-true, nat_tests, AllPairs-from_increasing}
+use Rattle.mls_geom.proofs.Definitions.{uncovered, Picture, IsRun, IsEnd, ShowsSlots, kind_if_covered, AreCuts, IsTop, kind_shown, world, Span, Tree}
 use Rattle.mls_geom.proofs.CutLines.{rises, slot_at}
 
 -- a kind that is shown, and `uncovered` where none is

@@ -1,12 +1,7 @@
 -- What slots show.
-use Rattle.std.proofs.Common.{◌≡◌, ◌∙◌, List, ap, length, slice_index_or, ◌+◌, ◌*◌, ◌^◌, ◌<◌, ◌≤◌, ◌&&◌, ◌/◌, arith, false, nat_le, nat_lt, refl, suc, true, zero, ℕ}
-use Rattle.std.proofs.Math.Nat.{pow-suc}
-use Rattle.std.proofs.lemmas.List.{get_or_default}
-use Rattle.std.proofs.lemmas.Nat.{pow_pos}
-use Rattle.std.proofs.lemmas.Bool.Decides.{nat_tests}
-use Rattle.mls_geom.specs.declared.part.Span.{Span}
-use Rattle.mls_geom.specs.declared.segment.Segment.{Segment}
-use Rattle.mls_geom.specs.Sweep.Trees.{node_of, shown, span_of}
+use Rattle.mls_geom.proofs.Common.{◌≡◌, ◌∙◌, List, ap, length, slice_index_or, ◌+◌, ◌*◌, ◌^◌, ◌<◌, ◌≤◌, ◌&&◌, ◌/◌, arith, false, nat_le, nat_lt, refl, suc, true, zero, ℕ, pow-suc, get_or_default, pow_pos, nat_tests}
+use Rattle.mls_geom.proofs.Definitions.{Span, Segment, node_of, span_of}
+use Rattle.mls_geom.specs.Sweep.Trees.{shown}
 
 -- a piece's slots, as they are read
 pub span_read :

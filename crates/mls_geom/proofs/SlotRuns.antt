@@ -1,10 +1,7 @@
 -- Slots of one kind, next to each other, are a run if the slots on both sides have other kinds. Here a slot of no piece has the kind of uncovered squares.
-use Rattle.std.proofs.Common.{◌≡◌, ◌≢◌, ℕ, ◌+◌, ◌-◌, ◌<◌, ◌≤◌, Option, List, length, slice_index, sym, ◌∙◌, arith}
-use Rattle.std.proofs.lemmas.List.Kept.{AllPairs-from_increasing}
-use Rattle.mls_geom.specs.Rects.{Rect}
-use Rattle.mls_geom.specs.Pictures.{Picture}
-use Rattle.mls_geom.specs.Sweep.Slots.{AreCuts, AreSlotKinds, shown}
-use Rattle.mls_geom.specs.Strips.{IsRun}
+use Rattle.mls_geom.proofs.Common.{◌≡◌, ◌≢◌, ℕ, ◌+◌, ◌-◌, ◌<◌, ◌≤◌, Option, List, length, slice_index, sym, ◌∙◌, arith, AllPairs-from_increasing}
+use Rattle.mls_geom.proofs.Definitions.{Rect, Picture, AreCuts, AreSlotKinds, IsRun}
+use Rattle.mls_geom.specs.Sweep.Slots.{shown}
 use Rattle.mls_geom.proofs.CutLines.{before_from_less, rises, slot_at}
 
 module _

@@ -1,14 +1,5 @@
 -- The squares that pass a test, row by row.
-use Rattle.std.proofs.Common.{◌≡◌, ℕ, ◌-◌, ◌<◌, ◌≤◌, Bool, true, ◌&&◌, ◌||◌, ◌==◌, nat_lt, IsTrue, List, [], ◌∷◌, map, flat_map, filter, count_by, sum_by, length, All, AllPairs, Contains, refl, ap, ◌∙◌, arith}
-use Rattle.std.proofs.Math.Path.{fun_ext}
-use Rattle.std.specs.List.{range_with_len}
-use Rattle.std.proofs.lemmas.Bool.Decides.{nat_tests}
-use Rattle.std.proofs.lemmas.List.{length-map}
-use Rattle.std.proofs.lemmas.List.Concat.{length-flat_map}
-use Rattle.std.proofs.lemmas.List.Elements.{All-contains, All-map, All-append, All-filter, All-contains_itself, filter_passes}
-use Rattle.std.proofs.lemmas.List.FromFn.{length-range_with_len, get_or-range_with_len}
-use Rattle.std.proofs.lemmas.List.Kept.{AllPairs-filter}
-use Rattle.std.proofs.lemmas.List.Sums.{length-filter}
+use Rattle.mls_geom.proofs.Common.{◌≡◌, ℕ, ◌-◌, ◌<◌, ◌≤◌, Bool, true, ◌&&◌, ◌||◌, ◌==◌, nat_lt, IsTrue, List, [], ◌∷◌, map, flat_map, filter, count_by, sum_by, length, All, AllPairs, Contains, refl, ap, ◌∙◌, arith, fun_ext, range_with_len, nat_tests, length-map, length-flat_map, All-contains, All-map, All-append, All-filter, All-contains_itself, filter_passes, length-range_with_len, get_or-range_with_len, AllPairs-filter, length-filter}
 use Rattle.mls_geom.proofs.Ascending.{AllPairs-first, AllPairs-rest, AllPairs-map, AllPairs-append, Contains-first, Contains-rest, Contains-map, Contains-filter, Contains-flat_map}
 
 -- the squares of a row in these columns that pass, each as its column and its row

@@ -1,21 +1,7 @@
 -- The strips of covered squares while a band is stacked on them from left to right: in the columns left of a line up to the band's top, in the others up to its bottom.
-use Rattle.std.proofs.Common.{◌≡◌, ◌≢◌, ℕ, ◌+◌, ◌-◌, ◌<◌, ◌≤◌, List, [], ◌∷◌, ◌++◌, length, get_or, set, IsTrue, true, inl, inr, le_refl, sym, ◌∙◌, arith, length-set}
-use Rattle.std.specs.List.{AllPairs}
-use Rattle.std.proofs.lemmas.Bool.{cases_lt, cases_order, false_from_ne_true}
-use Rattle.std.proofs.lemmas.Bool.Decides.{nat_tests}
-use Rattle.std.proofs.lemmas.List.{length_push}
-use Rattle.std.proofs.lemmas.List.Elements.{All-push, All-set}
-use Rattle.std.proofs.lemmas.List.Quantifiers.{any-set, Any-push, all_pairs_push}
-use Rattle.mls_geom.specs.Rects.{Rect}
-use Rattle.mls_geom.specs.Pictures.{Picture}
-use Rattle.mls_geom.specs.Sweep.Stacks.{up_to, extended, new_strip}
-use Rattle.mls_geom.specs.Locality.{AreCoveredStrips, covered_count, uncovered}
-use Rattle.mls_geom.specs.Strips.{IsRun, IsStrip, comes_before}
-use Rattle.mls_geom.specs.TileCounts.{goes_on_below}
-use Rattle.mls_geom.specs.declared.piece.Piece.{Piece}
-use Rattle.mls_geom.specs.declared.run.Run.{Run}
+use Rattle.mls_geom.proofs.Common.{◌≡◌, ◌≢◌, ℕ, ◌+◌, ◌-◌, ◌<◌, ◌≤◌, List, [], ◌∷◌, ◌++◌, length, get_or, set, IsTrue, true, inl, inr, le_refl, sym, ◌∙◌, arith, length-set, AllPairs, cases_lt, cases_order, false_from_ne_true, nat_tests, length_push, All-push, All-set, any-set, Any-push, all_pairs_push}
+use Rattle.mls_geom.proofs.Definitions.{Rect, Picture, up_to, extended, new_strip, AreCoveredStrips, covered_count, uncovered, IsRun, IsStrip, comes_before, goes_on_below, Piece, Run, HasSquare, IsBand, IsPartlyStacked, corners_between}
 use Rattle.mls_geom.proofs.BandCorners.{IsRun-from_goes_on_below, corners_between-grows, corners_between-run, corners_between-uncovered, covered_count-band, goes_on_below-IsRun}
-use Rattle.mls_geom.specs.Sweep.Changing.{HasSquare, IsBand, IsPartlyStacked, corners_between}
 use Rattle.mls_geom.proofs.Holds.{holds_between, between_holds}
 use Rattle.mls_geom.proofs.ListChanges.{All-set_others, AllPairs-set, Any-append, Any-set_kept}
 use Rattle.mls_geom.proofs.RowRuns.{AreOneRun, IsRun-alike, both_one_run, IsRun-extent, one_run}

@@ -1,18 +1,6 @@
 -- The strips of a row that is changed from left to right, as far as they are done: each that reaches on is stacked on the band if it begins left of the column.
-use Rattle.std.proofs.Common.{◌≡◌, ◌≢◌, ℕ, ◌-◌, ◌<◌, ◌≤◌, ◌==◌, nat_lt, min, if◌then◌else◌, List, [], ◌∷◌, ◌++◌, length, get_or, set, map, All, sym, ap, refl, ◌∙◌, inl, inr, arith, get_or-set_other}
-use Rattle.std.proofs.Math.Path.{fun_ext}
-use Rattle.std.specs.List.{AllWithin, Contains}
-use Rattle.std.proofs.lemmas.Bool.{cases_eq, cases_lt, cond-true, cond-false, eq-eqb, ne_eqb, lt-ltb, le-ltb}
-use Rattle.std.proofs.lemmas.Grind.{get_or-set_at}
-use Rattle.std.proofs.lemmas.List.{get_or_default, get_or-set_same, get_or_append_left}
-use Rattle.std.proofs.lemmas.List.Elements.{All-contains}
-use Rattle.mls_geom.specs.Pictures.{Picture}
-use Rattle.mls_geom.specs.Strips.{IsRun}
-use Rattle.mls_geom.specs.Sweep.Changing.{IsChanging, staged}
-use Rattle.mls_geom.specs.Sweep.KeptRows.{lowered, run_of, strip_at}
-use Rattle.mls_geom.specs.Sweep.Stacks.{extended}
-use Rattle.mls_geom.specs.World.{world}
-use Rattle.mls_geom.specs.declared.piece.Piece.{Piece}
+use Rattle.mls_geom.proofs.Common.{◌≡◌, ◌≢◌, ℕ, ◌-◌, ◌<◌, ◌≤◌, ◌==◌, nat_lt, min, if◌then◌else◌, List, [], ◌∷◌, ◌++◌, length, get_or, set, map, All, sym, ap, refl, ◌∙◌, inl, inr, arith, get_or-set_other, fun_ext, AllWithin, Contains, cases_eq, cases_lt, cond-true, cond-false, eq-eqb, ne_eqb, lt-ltb, le-ltb, get_or-set_at, get_or_default, get_or-set_same, get_or_append_left, All-contains}
+use Rattle.mls_geom.proofs.Definitions.{Picture, IsRun, IsChanging, staged, lowered, run_of, strip_at, extended, world, Piece}
 use Rattle.mls_geom.proofs.MappedLists.{All-from_map, AllPairs-from_map, map_alike}
 
 -- a strip that reaches on is stacked on the band left of the column, and ends at its bottom line right of it; one that has ended stays

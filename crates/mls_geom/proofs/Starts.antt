@@ -1,16 +1,7 @@
 -- Where pieces begin.
-use Rattle.std.proofs.Common.{◌≡◌, ℕ, ◌+◌, ◌<◌, ◌≤◌, true, false, leb, List, ◌∷◌, [], ◌++◌, get_or, length, take, drop, slice_get, All, refl, sym, ap, ◌∙◌, arith}
-use Rattle.std.specs.List.{range_with_len}
-use Rattle.std.specs.List.Sorted.{IsNonDecreasingBy, IsPartitionPoint, IsPermutation}
-use Rattle.std.proofs.lemmas.Bool.{leb-true, leb-false}
-use Rattle.std.proofs.lemmas.List.{append_assoc, map-append, map_push, take-append-drop, get_or-take, get_or-drop, length-take, length-drop, length-map}
-use Rattle.std.proofs.lemmas.List.Elements.{All-map, All-push, All-weaker}
-use Rattle.std.proofs.lemmas.List.FromFn.{length-range_with_len, get_or-range_with_len}
-use Rattle.std.proofs.lemmas.List.Sorted.{All-permutation, Contains-permutation, IsPermutation-map, length_permutation}
-use Rattle.std.proofs.lemmas.Option.{slice_get_read}
-use Rattle.mls_geom.specs.Sweep.ActivePieces.{AreStarts, StartsBelow, HasPiece, AddsStarted, NamesPiece, pieces_of}
-use Rattle.mls_geom.specs.declared.active.Start.{Start}
-use Rattle.mls_geom.specs.declared.piece.Piece.{Piece}
+use Rattle.mls_geom.proofs.Common.{◌≡◌, ℕ, ◌+◌, ◌<◌, ◌≤◌, true, false, leb, List, ◌∷◌, [], ◌++◌, get_or, length, take, drop, slice_get, All, refl, sym, ap, ◌∙◌, arith, range_with_len, IsNonDecreasingBy, IsPartitionPoint, IsPermutation, leb-true, leb-false, append_assoc, map-append, map_push, take-append-drop, get_or-take, get_or-drop, length-take, length-drop, length-map, All-map, All-push, All-weaker, length-range_with_len, get_or-range_with_len, All-permutation, Contains-permutation, IsPermutation-map, length_permutation, slice_get_read}
+use Rattle.mls_geom.proofs.Definitions.{AreStarts, StartsBelow, HasPiece, AddsStarted, NamesPiece, Start, Piece}
+use Rattle.mls_geom.specs.Sweep.ActivePieces.{pieces_of}
 use Rattle.mls_geom.proofs.ListLemmas.{IsDistinct-moved, IsDistinct-range_with_len, IsSomeAnd-all, IsSomeAnd-both, IsSomeAnd-const, IsSomeAnd-weaker, range_with_len_more}
 
 -- the piece begins at the line or above it

@@ -1,12 +1,6 @@
 -- Where strips end, as the extent grows upward.
-use Rattle.std.proofs.Common.{◌≡◌, ℕ, ◌-◌, ◌<◌, ◌≤◌, inl, inr, le_refl, sym, arith}
-use Rattle.std.proofs.lemmas.Bool.{cases_lt}
-use Rattle.mls_geom.specs.Rects.{Rect}
-use Rattle.mls_geom.specs.Pictures.{Picture}
-use Rattle.mls_geom.specs.Sweep.Stacks.{up_to, extended, new_strip}
-use Rattle.mls_geom.specs.Strips.{IsRun, IsStrip}
-use Rattle.mls_geom.specs.declared.piece.Piece.{Piece}
-use Rattle.mls_geom.specs.declared.run.Run.{Run}
+use Rattle.mls_geom.proofs.Common.{◌≡◌, ℕ, ◌-◌, ◌<◌, ◌≤◌, inl, inr, le_refl, sym, arith, cases_lt}
+use Rattle.mls_geom.proofs.Definitions.{Rect, Picture, up_to, extended, new_strip, IsRun, IsStrip, Piece, Run}
 use Rattle.mls_geom.proofs.RowRuns.{AreOneRun, IsRun-extent, IsRun-up_to}
 
 -- a strip whose run the row at the top line doesn't have is one of a higher extent too

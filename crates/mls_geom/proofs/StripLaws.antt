@@ -1,12 +1,6 @@
 -- The strips of a picture are determined by it, and number its tile count.
-use Rattle.std.proofs.Common.{◌≡◌, ℕ, ◌-◌, ◌<◌, Bool, true, List, map, length, get_or, All, AllPairs, Any, Contains, sym, ap, ◌∙◌, subst₂, le_refl, arith}
-use Rattle.std.proofs.lemmas.List.{length-map, get_or-map, same_lists}
-use Rattle.std.proofs.lemmas.List.Elements.{All-contains, All-map}
-use Rattle.mls_geom.specs.Rects.{Rect, holds}
-use Rattle.mls_geom.specs.Pictures.{Picture, columns, rows}
-use Rattle.mls_geom.specs.Strips.{IsStrip, AreStrips}
-use Rattle.mls_geom.specs.TileCounts.{is_corner, tile_count}
-use Rattle.mls_geom.specs.declared.piece.Piece.{Piece}
+use Rattle.mls_geom.proofs.Common.{◌≡◌, ℕ, ◌-◌, ◌<◌, Bool, true, List, map, length, get_or, All, AllPairs, Any, Contains, sym, ap, ◌∙◌, subst₂, le_refl, arith, length-map, get_or-map, same_lists, All-contains, All-map}
+use Rattle.mls_geom.proofs.Definitions.{Rect, holds, Picture, columns, rows, IsStrip, AreStrips, is_corner, tile_count, Piece}
 use Rattle.mls_geom.proofs.Ascending.{same_ascending, AllPairs-map, Contains-map}
 use Rattle.mls_geom.proofs.Corners.{is_corner-IsStrip, corner-IsStrip, same_strip}
 use Rattle.mls_geom.proofs.Holds.{holds_between, between_holds}

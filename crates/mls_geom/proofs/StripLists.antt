@@ -1,14 +1,6 @@
 -- A list of the strips of a picture is the one that is made from its squares.
-use Rattle.std.proofs.Common.{◌≡◌, ℕ, ◌<◌, Bool, true, List, [], ◌∷◌, ◌++◌, map, flat_map, filter, length, get_or, All, refl, sym, ap, subst₂, ◌∙◌, le_refl, lt_of_lt_of_le, arith, eq-eqb, eqb-true}
-use Rattle.std.proofs.lemmas.Bool.{and_from, and_parts, false_from_ne_true}
-use Rattle.std.proofs.lemmas.List.{map-append, length-map, get_or-map, same_lists}
-use Rattle.std.proofs.lemmas.Simd.{map-map}
-use Rattle.mls_geom.specs.Rects.{Rect}
-use Rattle.mls_geom.specs.Pictures.{Picture, columns, rows}
-use Rattle.mls_geom.specs.StripLists.{has_run_of, rows_end, strip_from, strips_of}
-use Rattle.mls_geom.specs.Strips.{IsRun, IsStrip, AreStrips}
-use Rattle.mls_geom.specs.TileCounts.{run_end, is_corner}
-use Rattle.mls_geom.specs.declared.piece.Piece.{Piece}
+use Rattle.mls_geom.proofs.Common.{◌≡◌, ℕ, ◌<◌, Bool, true, List, [], ◌∷◌, ◌++◌, map, flat_map, filter, length, get_or, All, refl, sym, ap, subst₂, ◌∙◌, le_refl, lt_of_lt_of_le, arith, eq-eqb, eqb-true, and_from, and_parts, false_from_ne_true, map-append, length-map, get_or-map, same_lists, map-map}
+use Rattle.mls_geom.proofs.Definitions.{Rect, Picture, columns, rows, has_run_of, rows_end, strip_from, strips_of, IsRun, IsStrip, AreStrips, run_end, is_corner, Piece}
 use Rattle.mls_geom.proofs.RunTests.{front, starts_run-IsRun, run_end-IsRun, IsRun-from_tests}
 use Rattle.mls_geom.proofs.Squares.{row_where, squares_where}
 use Rattle.mls_geom.proofs.StripLaws.{corners, corner_of, corners-AreStrips}

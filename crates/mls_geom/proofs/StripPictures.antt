@@ -1,13 +1,6 @@
 -- A picture by its strips.
-use Rattle.std.proofs.Common.{◌≡◌, ◌≢◌, ℕ, IsTrue, true, false, List, get_or, subst, le_refl, ⊎_elim, sym, ◌∙◌, arith}
-use Rattle.std.proofs.Math.Path.{fun_ext}
-use Rattle.std.proofs.lemmas.Bool.Decides.{nat_tests}
-use Rattle.std.proofs.lemmas.Bool.{cases_Bool, both_ways, false_from_ne_true}
-use Rattle.mls_geom.specs.Rects.{Rect, IsRectangleIn, holds}
-use Rattle.mls_geom.specs.Pictures.{Picture, empty_picture, picture_of}
-use Rattle.mls_geom.specs.Locality.{AreUnorderedStrips}
-use Rattle.mls_geom.specs.Strips.{IsStrip, AreStrips, comes_before}
-use Rattle.mls_geom.specs.declared.piece.Piece.{Piece}
+use Rattle.mls_geom.proofs.Common.{◌≡◌, ◌≢◌, ℕ, IsTrue, true, false, List, get_or, subst, le_refl, ⊎_elim, sym, ◌∙◌, arith, fun_ext, nat_tests, cases_Bool, both_ways, false_from_ne_true}
+use Rattle.mls_geom.proofs.Definitions.{Rect, IsRectangleIn, holds, Picture, empty_picture, picture_of, AreUnorderedStrips, IsStrip, AreStrips, comes_before, Piece}
 use Rattle.mls_geom.proofs.Holds.{holds_between, between_holds}
 use Rattle.mls_geom.proofs.Overlays.{overlaid_outside, overlaid_agreed}
 

@@ -1,10 +1,7 @@
 -- Nodes that bound what their slots show.
-use Rattle.std.proofs.Common.{◌≡◌, ◌≢◌, ℕ, ◌+◌, ◌^◌, ◌<◌, ◌≤◌, zero, suc, max, nat_lt, if◌then◌else◌, List, refl, ◌∙◌, arith}
-use Rattle.std.proofs.lemmas.Nat.{pow_pos}
-use Rattle.mls_geom.specs.declared.node.Node.{Node}
-use Rattle.mls_geom.specs.declared.segment.Segment.{Segment}
-use Rattle.mls_geom.specs.Sweep.Trees.{IsInside, node_of, shown, node_at, Agrees, Bounds, IsSummed, AreSummed, AreSummedBelow, IsLinked}
-use Rattle.mls_geom.specs.declared.tree.Tree.{Tree}
+use Rattle.mls_geom.proofs.Common.{◌≡◌, ◌≢◌, ℕ, ◌+◌, ◌^◌, ◌<◌, ◌≤◌, zero, suc, max, nat_lt, if◌then◌else◌, List, refl, ◌∙◌, arith, pow_pos}
+use Rattle.mls_geom.proofs.Definitions.{Node, Segment, IsInside, node_of, node_at, Agrees, Bounds, IsSummed, AreSummed, AreSummedBelow, IsLinked, Tree}
+use Rattle.mls_geom.specs.Sweep.Trees.{shown}
 use Rattle.mls_geom.proofs.ShownSlots.{twice, shown_alike}
 
 -- the topmost one of a part whose nodes all do

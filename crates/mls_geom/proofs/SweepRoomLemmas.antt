@@ -1,7 +1,6 @@
 -- Room that is enough for more is enough for less.
 use Rattle.std.proofs.Common.{ℕ, ◌≤◌, arith}
-use Rattle.mls_geom.specs.Sweep.RowRooms.{HasRowRoom}
-use Rattle.mls_geom.specs.declared.row.Row.{Row}
+use Rattle.mls_geom.proofs.Definitions.{HasRowRoom, Row}
 
 pub HasRowRoom-less : (row : Row) (less more : ℕ) → less ≤ more → HasRowRoom row more → HasRowRoom row less
 HasRowRoom-less row less more below room = record {

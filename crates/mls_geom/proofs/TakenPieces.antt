@@ -1,12 +1,7 @@
 -- Trees once a piece is put or taken.
-use Rattle.std.proofs.Common.{◌≡◌, ◌≢◌, ℕ, ◌<◌, ◌⊎◌, Bool, true, false, if◌then◌else◌, List, [], ◌∷◌, length, inl, inr, sym, ap, ◌∙◌, arith, ne_eqb, eq-eqb}
-use Rattle.std.proofs.lemmas.Bool.{cases_Bool, cases_eq, false≢true}
-use Rattle.mls_geom.specs.Sweep.Chains.{IsChainOf, linked, stepped, unlinked}
-use Rattle.mls_geom.specs.Sweep.Events.{IsNext, moved}
-use Rattle.mls_geom.specs.Sweep.Trees.{has_node, span_of, end_of, EndsFirst, changed_in, HasChanged, with_piece, without_piece, HasHeight, IsTree}
-use Rattle.mls_geom.specs.declared.chain.Step.{Step}
-use Rattle.mls_geom.specs.declared.chain.Step.TheVariants.{Begins, Ends}
-use Rattle.mls_geom.specs.declared.tree.Tree.{Tree}
+use Rattle.mls_geom.proofs.Common.{◌≡◌, ◌≢◌, ℕ, ◌<◌, ◌⊎◌, Bool, true, false, if◌then◌else◌, List, [], ◌∷◌, length, inl, inr, sym, ap, ◌∙◌, arith, ne_eqb, eq-eqb, cases_Bool, cases_eq, false≢true}
+use Rattle.mls_geom.proofs.Definitions.{IsChainOf, linked, stepped, unlinked, IsNext, has_node, span_of, end_of, EndsFirst, changed_in, HasChanged, with_piece, without_piece, HasHeight, IsTree, Step, Begins, Ends, Tree}
+use Rattle.mls_geom.specs.Sweep.Events.{moved}
 use Rattle.mls_geom.proofs.ChainLists.{linked-hides, linked-hides-new, IsStaircase-linked, taken-hides}
 use Rattle.mls_geom.proofs.EachOfChain.{Each-both, Each-weaker, Each-linked}
 use Rattle.mls_geom.proofs.PresentPieces.{with-old, with-new, with-which, without-others, without-which}

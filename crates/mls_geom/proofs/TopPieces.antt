@@ -1,13 +1,6 @@
 -- The topmost pieces of slots, and the marks where they change.
-use Rattle.std.proofs.Common.{◌≡◌, ◌≢◌, ℕ, zero, suc, ◌+◌, ◌-◌, ◌<◌, ◌≤◌, ◌&&◌, ◌⊎◌, Bool, true, false, List, [], ◌∷◌, ◌++◌, refl, arith, inl, inr}
-use Rattle.std.proofs.lemmas.Bool.{and_from, both_ways, cases_Bool, cases_eq, cases_lt}
-use Rattle.std.proofs.lemmas.Bool.Decides.{nat_tests}
-use Rattle.std.proofs.lemmas.List.Quantifiers.{Any-push}
-use Rattle.mls_geom.specs.Sweep.Events.{HaveChangedTops}
-use Rattle.mls_geom.specs.Sweep.KeptRows.{IsMarked}
-use Rattle.mls_geom.specs.Sweep.Trees.{IsRankOf, IsTop, has_slot, span_of, with_piece, without_piece}
-use Rattle.mls_geom.specs.declared.part.Span.{Span}
-use Rattle.mls_geom.specs.declared.segment.Segment.{Segment}
+use Rattle.mls_geom.proofs.Common.{◌≡◌, ◌≢◌, ℕ, zero, suc, ◌+◌, ◌-◌, ◌<◌, ◌≤◌, ◌&&◌, ◌⊎◌, Bool, true, false, List, [], ◌∷◌, ◌++◌, refl, arith, inl, inr, and_from, both_ways, cases_Bool, cases_eq, cases_lt, nat_tests, Any-push}
+use Rattle.mls_geom.proofs.Definitions.{HaveChangedTops, IsMarked, IsRankOf, IsTop, has_slot, span_of, with_piece, without_piece, Span, Segment}
 use Rattle.mls_geom.proofs.JoinedLists.{Any-append_left}
 use Rattle.mls_geom.proofs.PresentPieces.{with-old, with-new, with-which, without-others, without-which}
 

@@ -1,11 +1,7 @@
 -- What slots show is the topmost piece that has them.
-use Rattle.std.proofs.Common.{◌≡◌, ◌+◌, ◌^◌, ◌<◌, ◌≤◌, ◌==◌, ◌&&◌, ◌||◌, ◌⊎◌, ◌∙◌, if◌then◌else◌, Bool, List, arith, false, inl, inr, max, nat_lt, not, refl, suc, sym, true, zero, ℕ}
-use Rattle.std.proofs.lemmas.Nat.{pow_pos}
-use Rattle.std.proofs.lemmas.Bool.Decides.{nat_tests}
-use Rattle.std.proofs.lemmas.Bool.{cases_Bool, cases_lt, lt-ltb, ltb-true, false_from_ne_true, false≢true}
-use Rattle.mls_geom.specs.declared.part.Span.{Span}
-use Rattle.mls_geom.specs.declared.segment.Segment.{Segment}
-use Rattle.mls_geom.specs.Sweep.Trees.{IsInside, IsRankOf, has_node, has_slot, lies_in, node_of, shown, span_of}
+use Rattle.mls_geom.proofs.Common.{◌≡◌, ◌+◌, ◌^◌, ◌<◌, ◌≤◌, ◌==◌, ◌&&◌, ◌||◌, ◌⊎◌, ◌∙◌, if◌then◌else◌, Bool, List, arith, false, inl, inr, max, nat_lt, not, refl, suc, sym, true, zero, ℕ, pow_pos, nat_tests, cases_Bool, cases_lt, lt-ltb, ltb-true, false_from_ne_true, false≢true}
+use Rattle.mls_geom.proofs.Definitions.{Span, Segment, IsInside, IsRankOf, has_node, has_slot, lies_in, node_of, span_of}
+use Rattle.mls_geom.specs.Sweep.Trees.{shown}
 use Rattle.mls_geom.proofs.ShownSlots.{twice}
 
 -- a rank of one set or of another

@@ -1,8 +1,7 @@
 -- The rank that a slot of a tree shows is that of its topmost present piece.
 use Rattle.std.proofs.Common.{◌≡◌, ◌<◌, ◌≤◌, ◌∷◌, [], Bool, List, arith, inl, inr, length, true, ℕ}
-use Rattle.mls_geom.specs.declared.tree.Tree.{Tree}
-use Rattle.mls_geom.specs.Sweep.Chains.{Each, rank_of}
-use Rattle.mls_geom.specs.Sweep.Trees.{IsInside, IsRankOf, IsTop, IsTree, end_of, has_node, node_at, shown, span_of}
+use Rattle.mls_geom.proofs.Definitions.{Tree, Each, rank_of, IsInside, IsRankOf, IsTop, IsTree, end_of, has_node, node_at, span_of}
+use Rattle.mls_geom.specs.Sweep.Trees.{shown}
 use Rattle.mls_geom.proofs.TopSlots.{IsRankOf-shown}
 use Rattle.mls_geom.proofs.ChainLists.{IsRankOf-chain}
 

@@ -1,13 +1,7 @@
 -- A walk down a tree, from all slots to those of a part that has the slot.
-use Rattle.std.proofs.Common.{◌≡◌, ◌+◌, ◌-◌, ◌*◌, ◌^◌, ◌<◌, ◌≤◌, ◌/◌, ◌∙◌, if◌then◌else◌, Bool, List, ap, arith, inl, inr, length, max, nat_lt, refl, slice_index_or, suc, sym, zero, ℕ}
-use Rattle.std.proofs.lemmas.List.{get_or_default}
-use Rattle.std.proofs.lemmas.Nat.{pow_pos}
-use Rattle.std.proofs.lemmas.Bool.{cases_lt, lt-ltb, ltb-true, false_from_ne_true, cases_eq}
-use Rattle.mls_geom.specs.declared.node.Node.{Node}
-use Rattle.mls_geom.specs.declared.part.Part.{Part}
-use Rattle.mls_geom.specs.declared.segment.Segment.{Segment}
-use Rattle.mls_geom.specs.declared.tree.Tree.{Tree}
-use Rattle.mls_geom.specs.Sweep.Trees.{AreSummed, Bounds, HasWidth, IsTop, IsTree, node_at, node_of, shown}
+use Rattle.mls_geom.proofs.Common.{◌≡◌, ◌+◌, ◌-◌, ◌*◌, ◌^◌, ◌<◌, ◌≤◌, ◌/◌, ◌∙◌, if◌then◌else◌, Bool, List, ap, arith, inl, inr, length, max, nat_lt, refl, slice_index_or, suc, sym, zero, ℕ, get_or_default, pow_pos, cases_lt, lt-ltb, ltb-true, false_from_ne_true, cases_eq}
+use Rattle.mls_geom.proofs.Definitions.{Node, Part, Segment, Tree, AreSummed, Bounds, HasWidth, IsTop, IsTree, node_at, node_of}
+use Rattle.mls_geom.specs.Sweep.Trees.{shown}
 use Rattle.mls_geom.proofs.ShownSlots.{twice}
 use Rattle.mls_geom.proofs.TreeTops.{ranks_in, IsTop-shown, top-known}
 use Rattle.mls_geom.proofs.SummedNodes.{AreSummed-below, AreSummed-top}

@@ -1,17 +1,6 @@
 -- The strips of a picture number its tile count, in whatever order they stand.
-use Rattle.std.proofs.Common.{◌≡◌, ◌≢◌, ℕ, ◌≤◌, Bool, ◌&&◌, ◌==◌, List, map, length, get_or, All, AllPairs, Contains, Decides, sym, ap, subst, ◌∙◌, arith}
-use Rattle.std.specs.Cmp.{IsEquivalence}
-use Rattle.std.proofs.lemmas.Bool.{and_parts, and_from, eqb-true, eq-eqb}
-use Rattle.std.proofs.lemmas.Bool.Decides.{nat_tests}
-use Rattle.std.proofs.lemmas.List.{length-map}
-use Rattle.std.proofs.lemmas.List.Elements.{All-contains, All-map}
-use Rattle.std.proofs.lemmas.Map.Made.{length-le_from_is_member, is_member-Decides, IsDistinct-from_AllPairs}
-use Rattle.mls_geom.specs.Locality.{AreUnorderedStrips}
-use Rattle.mls_geom.specs.Pictures.{Picture}
-use Rattle.mls_geom.specs.Rects.{Rect}
-use Rattle.mls_geom.specs.Strips.{IsStrip}
-use Rattle.mls_geom.specs.TileCounts.{tile_count}
-use Rattle.mls_geom.specs.declared.piece.Piece.{Piece}
+use Rattle.mls_geom.proofs.Common.{◌≡◌, ◌≢◌, ℕ, ◌≤◌, Bool, ◌&&◌, ◌==◌, List, map, length, get_or, All, AllPairs, Contains, Decides, sym, ap, subst, ◌∙◌, arith, IsEquivalence, and_parts, and_from, eqb-true, eq-eqb, nat_tests, length-map, All-contains, All-map, length-le_from_is_member, is_member-Decides, IsDistinct-from_AllPairs}
+use Rattle.mls_geom.proofs.Definitions.{AreUnorderedStrips, Picture, Rect, IsStrip, tile_count, Piece}
 use Rattle.mls_geom.proofs.Ascending.{AllPairs-map}
 use Rattle.mls_geom.proofs.Corners.{same_strip}
 use Rattle.mls_geom.proofs.Squares.{StandsBefore, stands_before_one_way}

@@ -1,14 +1,7 @@
 -- Pieces laid on one piece of space, which is the whole extent, show in it what they show on an empty plane. So all its squares are covered,
 -- and the covered strips are all strips.
-use Rattle.std.proofs.Common.{◌≡◌, ◌≢◌, ℕ, ◌<◌, true, List, [], ◌∷◌, ◌++◌, arith}
-use Rattle.std.proofs.lemmas.Bool.{cond_both}
-use Rattle.std.proofs.lemmas.List.Elements.{All-head, All-tail}
-use Rattle.mls_geom.specs.Locality.{AreCoveredStrips, HaveKinds, covered_count, laid, uncovered}
-use Rattle.mls_geom.specs.Pictures.{Picture, empty_picture, overlaid, painted, picture_of}
-use Rattle.mls_geom.specs.Rects.{Rect, holds}
-use Rattle.mls_geom.specs.Strips.{AreStrips}
-use Rattle.mls_geom.specs.TileCounts.{tile_count}
-use Rattle.mls_geom.specs.declared.piece.Piece.{Piece}
+use Rattle.mls_geom.proofs.Common.{◌≡◌, ◌≢◌, ℕ, ◌<◌, true, List, [], ◌∷◌, ◌++◌, arith, cond_both, All-head, All-tail}
+use Rattle.mls_geom.proofs.Definitions.{AreCoveredStrips, HaveKinds, covered_count, laid, uncovered, Picture, empty_picture, overlaid, painted, picture_of, Rect, holds, AreStrips, tile_count, Piece}
 use Rattle.mls_geom.proofs.CoveredCounts.{tile_count-window}
 use Rattle.mls_geom.proofs.CoveredStrips.{IsStrip-shown, IsWindow}
 use Rattle.mls_geom.proofs.Overlays.{overlaid-at, overlaid_append, painted_inside}

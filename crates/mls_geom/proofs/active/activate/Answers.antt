@@ -1,12 +1,6 @@
 -- What ends at the line leaves, what begins at it joins, and the sort puts the two in order.
-use Rattle.std.proofs.Common.{◌≡◌, leb, take, arith, rules}
-use Rattle.std.specs.List.{filter}
-use Rattle.std.proofs.lemmas.Fn.{filter_same}
-use Rattle.std.proofs.lemmas.List.{take_all}
-use Rattle.std.proofs.lemmas.List.Sorted.{IsNonDecreasingBy-from_sort, IsPartitionPoint-from_clause, IsPartitionedBy-leb}
-use Rattle.mls_geom.specs.Sweep.ActivePieces.{AddsStarted, ends_above}
-use Rattle.mls_geom.specs.World.{world}
-use Rattle.mls_geom.specs.declared.active.Start.{Start}
+use Rattle.mls_geom.proofs.Common.{◌≡◌, leb, take, arith, rules, filter, filter_same, take_all, IsNonDecreasingBy-from_sort, IsPartitionPoint-from_clause, IsPartitionedBy-leb}
+use Rattle.mls_geom.proofs.Definitions.{AddsStarted, ends_above, world, Start}
 use Rattle.mls_geom.proofs.Activation.{ArePartedAt-activate, AreActive-parted, EndsFrom-activate}
 use Rattle.mls_geom.proofs.Starts.{AddsStarted-partition}
 use Rattle.mls_geom.proofs.active.activate.Goals as goal

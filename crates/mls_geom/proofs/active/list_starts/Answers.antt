@@ -1,9 +1,7 @@
 -- The starts are listed by the indices of their pieces, and then sorted.
-use Rattle.std.proofs.Common.{◌≡◌, length, ap, ◌∙◌, arith, rules}
-use Rattle.std.proofs.lemmas.List.Sorted.{IsNonDecreasingBy-from_sort_by_key}
-use Rattle.mls_geom.specs.Rects.{Rect}
+use Rattle.mls_geom.proofs.Common.{◌≡◌, length, ap, ◌∙◌, arith, rules, IsNonDecreasingBy-from_sort_by_key}
+use Rattle.mls_geom.proofs.Definitions.{Rect, Start}
 use Rattle.mls_geom.proofs.Starts.{AreStarts-sorted, NamesPiece-more, pieces_of-more}
-use Rattle.mls_geom.specs.declared.active.Start.{Start}
 use Rattle.mls_geom.proofs.active.list_starts.Goals as goal
 
 pub loop-i-preserved : goal.loop-i-preserved

@@ -1,5 +1,4 @@
-use Rattle.std.proofs.Common.{◌≡◌, vec_len, vec_capacity}
-use Rattle.std.specs.List.{All, range_with_len}
+use Rattle.mls_geom.proofs.Common.{◌≡◌, vec_len, vec_capacity, All, range_with_len}
 use Rattle.mls_geom.specs.Sweep.ActivePieces.{NamesPiece, pieces_of}
 use Rattle.mls_geom.proofs.active.list_starts.Given as goal
 

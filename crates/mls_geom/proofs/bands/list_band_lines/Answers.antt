@@ -1,15 +1,7 @@
 -- The ends of each piece are put in, or are there, and all are sorted at the end.
-use Rattle.std.proofs.Common.{◌≡◌, ℕ, ◌<◌, List, ◌∷◌, ◌++◌, [], take, vec_len, vec_capacity, subst, refl, ap, ◌∙◌, arith}
-use Rattle.std.specs.List.{Contains}
-use Rattle.std.proofs.lemmas.List.{take_all}
-use Rattle.std.proofs.lemmas.Bool.Decides.{Decides-eqb}
-use Rattle.std.proofs.lemmas.List.Elements.{All-more, Contains-append_right}
-use Rattle.std.proofs.lemmas.Slice.Eq.{ends_is}
-use Rattle.mls_geom.specs.Locality.{uncovered}
+use Rattle.mls_geom.proofs.Common.{◌≡◌, ℕ, ◌<◌, List, ◌∷◌, ◌++◌, [], take, vec_len, vec_capacity, subst, refl, ap, ◌∙◌, arith, Contains, take_all, Decides-eqb, All-more, Contains-append_right, ends_is}
+use Rattle.mls_geom.proofs.Definitions.{uncovered, Rect, IsRectangleIn, world, Piece}
 use Rattle.mls_geom.proofs.BandLines.{AreBandLines-ascended, HaveEnds-again, HaveEnds-more}
-use Rattle.mls_geom.specs.Rects.{Rect, IsRectangleIn}
-use Rattle.mls_geom.specs.World.{world}
-use Rattle.mls_geom.specs.declared.piece.Piece.{Piece}
 use Rattle.mls_geom.proofs.bands.list_band_lines.Goals as goal
 use Rattle.mls_geom.proofs.bands.list_band_lines.Goals.{then-not-ends_with, else-not-ends_with}
 

@@ -1,7 +1,5 @@
 use Rattle.std.proofs.Common.{◌≡◌, ◌+◌, ◌*◌, ◌≤◌, take, vec_len, vec_capacity}
-use Rattle.mls_geom.specs.Locality.{HaveKinds}
-use Rattle.mls_geom.specs.Sweep.BandLines.{HaveEnds}
-use Rattle.mls_geom.specs.World.{AreLegal, world}
+use Rattle.mls_geom.proofs.Definitions.{HaveKinds, HaveEnds, AreLegal, world}
 use Rattle.mls_geom.proofs.bands.list_band_lines.Given as goal
 
 abbrev pub invariant-loop-piece : goal.invariant-loop-piece

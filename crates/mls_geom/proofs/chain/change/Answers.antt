@@ -1,6 +1,5 @@
 -- A piece that begins is linked, and one that ends is unlinked where it is the chain's first one.
-use Rattle.std.proofs.Common.{arith, ◌∙◌}
-use Rattle.std.proofs.lemmas.List.{get_or_default}
+use Rattle.mls_geom.proofs.Common.{arith, ◌∙◌, get_or_default}
 use Rattle.mls_geom.proofs.ChainEntries.{IsBegun-chain, IsChain-not_unlinked, IsChain-unlinked}
 use Rattle.mls_geom.proofs.chain.change.Goals as goal
 

@@ -1,7 +1,6 @@
 -- Each turn passes one entry more.
 use Rattle.std.proofs.Common.{get_or, ◌≡◌, ◌<◌, length, arith}
-use Rattle.mls_geom.specs.Sweep.Chains.{entry_at}
-use Rattle.mls_geom.specs.Sweep.Trees.{end_of}
+use Rattle.mls_geom.proofs.Definitions.{entry_at, end_of}
 use Rattle.mls_geom.proofs.ChainEntries.{end_read, IsChain-rest, IsFalling-right, IsOutlived-end, IsOutlived-more, IsOutlived-start, rank_at-under}
 use Rattle.mls_geom.proofs.chain.first_after.Goals as goal
 use Rattle.mls_geom.proofs.chain.first_after.Goals.{After-index-segments-at, In-Some}

@@ -1,7 +1,6 @@
 -- The pieces of the entries so far end no later than this one; those of the next ones lie lower and lower.
 use Rattle.std.proofs.Common.{ℕ, List}
-use Rattle.mls_geom.specs.Sweep.Chains.{IsChain}
-use Rattle.mls_geom.specs.Sweep.Trees.{end_of}
+use Rattle.mls_geom.proofs.Definitions.{IsChain, end_of}
 use Rattle.mls_geom.proofs.ChainEntries.{IsOutlived, rank_at}
 use Rattle.mls_geom.proofs.chain.first_after.Given as goal
 

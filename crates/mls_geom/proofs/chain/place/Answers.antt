@@ -1,7 +1,6 @@
 -- Each turn passes one entry more.
 use Rattle.std.proofs.Common.{get_or, ◌≡◌, ◌<◌, ◌++◌, Some, length, ap, sym, ◌∙◌, arith}
-use Rattle.mls_geom.specs.Sweep.Chains.{entry_at, under_of}
-use Rattle.mls_geom.specs.Sweep.Trees.{end_of}
+use Rattle.mls_geom.proofs.Definitions.{entry_at, under_of, end_of}
 use Rattle.mls_geom.proofs.ChainEntries.{end_read, IsChain-rest, IsFalling-right, IsSplitAt-more, IsSplitAt-start, linked-hidden, rank_at-under}
 use Rattle.mls_geom.proofs.chain.place.Goals as goal
 use Rattle.mls_geom.proofs.chain.place.Goals.{After-index-segments-at, In-Some}

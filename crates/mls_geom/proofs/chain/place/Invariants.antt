@@ -1,7 +1,6 @@
 -- The pieces of the entries so far lie over this one and end before it; those of the next ones lie lower and lower.
 use Rattle.std.proofs.Common.{◌≡◌, ℕ, List}
-use Rattle.mls_geom.specs.Sweep.Chains.{IsChain, IsSplitAt, under_of}
-use Rattle.mls_geom.specs.Sweep.Trees.{end_of}
+use Rattle.mls_geom.proofs.Definitions.{IsChain, IsSplitAt, under_of, end_of}
 use Rattle.mls_geom.proofs.ChainEntries.{rank_at}
 use Rattle.mls_geom.proofs.chain.place.Given as goal
 

@@ -1,8 +1,6 @@
 -- Each piece is listed with its line, and then all are put in order.
-use Rattle.std.proofs.Common.{rules, ◌≡◌, length, ◌∙◌, arith}
-use Rattle.std.proofs.lemmas.Fn.{always_returns_same}
-use Rattle.mls_geom.specs.Sweep.Events.{line_of}
-use Rattle.mls_geom.specs.World.{world}
+use Rattle.mls_geom.proofs.Common.{rules, ◌≡◌, length, ◌∙◌, arith, always_returns_same}
+use Rattle.mls_geom.proofs.Definitions.{line_of, world}
 use Rattle.mls_geom.proofs.EventLists.{AllPairs-before, AreEvents-sorted, AreListed-push, is_before}
 use Rattle.mls_geom.proofs.events.list_events.Goals as goal
 

@@ -1,7 +1,6 @@
 -- The pieces so far are listed.
 use Rattle.std.proofs.Common.{◌≡◌, length, vec_capacity}
-use Rattle.mls_geom.specs.Sweep.Events.{line_of}
-use Rattle.mls_geom.specs.World.{world}
+use Rattle.mls_geom.proofs.Definitions.{line_of, world}
 use Rattle.mls_geom.proofs.EventLists.{AreListed}
 use Rattle.mls_geom.proofs.events.list_events.Given as goal
 

@@ -1,6 +1,5 @@
 -- The piece in hand stands before those that were visited.
-use Rattle.std.proofs.Common.{◌≡◌, ◌+◌, ◌-◌, ◌∷◌, ◌++◌, [], length, vec_len, vec_capacity, drop, inl, inr, sym, ap, ◌∙◌, arith}
-use Rattle.std.proofs.lemmas.List.{drop_more, get_or_default}
+use Rattle.mls_geom.proofs.Common.{◌≡◌, ◌+◌, ◌-◌, ◌∷◌, ◌++◌, [], length, vec_len, vec_capacity, drop, inl, inr, sym, ap, ◌∙◌, arith, drop_more, get_or_default}
 use Rattle.mls_geom.proofs.HiddenPieces.{HasShown-hidden, HasShown-listed}
 use Rattle.mls_geom.proofs.hidden.list_shown.Goals as goal
 use Rattle.mls_geom.proofs.hidden.list_shown.Goals.{then-not-encloses+then-size, then-not-encloses+else-size, else-not-encloses}

@@ -1,7 +1,5 @@
 -- Each stretch of the piece's slots is marked, or hidden.
-use Rattle.std.proofs.Common.{◌<◌, length, ap, inl, inr, arith}
-use Rattle.std.proofs.lemmas.Bool.{cases_lt}
-use Rattle.std.proofs.lemmas.List.Elements.{All-push}
+use Rattle.mls_geom.proofs.Common.{◌<◌, length, ap, inl, inr, arith, cases_lt, All-push}
 use Rattle.mls_geom.specs.declared.part.Span.{Span}
 use Rattle.mls_geom.proofs.TopPieces.{IsMarked-more, IsMarked-push, has_slot-in}
 use Rattle.mls_geom.proofs.ShownSlots.{span_read}

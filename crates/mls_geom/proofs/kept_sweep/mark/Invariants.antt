@@ -1,7 +1,6 @@
 -- In the slots so far that aren't marked, pieces over it lie on top.
 use Rattle.std.proofs.Common.{ℕ, ◌+◌, ◌-◌, ◌<◌, ◌≤◌, Bool, List, length}
-use Rattle.mls_geom.specs.Sweep.KeptRows.{AreMarks, IsMarked}
-use Rattle.mls_geom.specs.Sweep.Trees.{IsTop, IsTree, span_of}
+use Rattle.mls_geom.proofs.Definitions.{AreMarks, IsMarked, IsTop, IsTree, span_of}
 use Rattle.mls_geom.proofs.kept_sweep.mark.Given as goal
 
 abbrev pub invariant-loop-first : goal.invariant-loop-first

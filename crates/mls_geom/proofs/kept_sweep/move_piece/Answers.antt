@@ -1,9 +1,6 @@
 -- Where the piece is present it is marked: once it has begun, and before it ends.
-use Rattle.std.proofs.Common.{Vec, Global, subst}
-use Rattle.std.proofs.lemmas.Result.{on_ok_weaker}
-use Rattle.mls_geom.specs.Sweep.Events.{HaveChangedTops}
-use Rattle.mls_geom.specs.Sweep.Trees.{with_piece}
-use Rattle.mls_geom.specs.declared.segment.Segment.{Segment}
+use Rattle.mls_geom.proofs.Common.{Vec, Global, subst, on_ok_weaker}
+use Rattle.mls_geom.proofs.Definitions.{HaveChangedTops, with_piece, Segment}
 use Rattle.mls_geom.proofs.TopPieces.{HaveChangedTops-with, HaveChangedTops-without}
 use Rattle.mls_geom.proofs.kept_sweep.move_piece.Goals as goal
 

@@ -1,13 +1,7 @@
 -- The events are in order, so the search parts them at the line. Each piece moves in its turn.
-use Rattle.std.proofs.Common.{◌≡◌, ◌<◌, ℕ, leb, Vec, Global, List, length, get_or, ap, ◌∙◌, subst, arith, rules}
-use Rattle.std.proofs.lemmas.List.{get_or-take}
-use Rattle.std.proofs.lemmas.List.Sorted.{IsPartitionPoint-from_clause, IsPartitionedBy-leb}
-use Rattle.mls_geom.specs.Sweep.Events.{Awaits, HaveChangedTops, IsNext, line_of, moved, present_after, present_before}
-use Rattle.mls_geom.specs.Sweep.KeptRows.{AreMarks}
-use Rattle.mls_geom.specs.Sweep.Trees.{IsTree}
-use Rattle.mls_geom.specs.declared.events.Event.{Event}
-use Rattle.mls_geom.specs.declared.piece.Piece.{Piece}
-use Rattle.mls_geom.specs.declared.segment.Segment.{Segment}
+use Rattle.mls_geom.proofs.Common.{◌≡◌, ◌<◌, ℕ, leb, Vec, Global, List, length, get_or, ap, ◌∙◌, subst, arith, rules, get_or-take, IsPartitionPoint-from_clause, IsPartitionedBy-leb}
+use Rattle.mls_geom.proofs.Definitions.{Awaits, HaveChangedTops, IsNext, line_of, present_after, present_before, AreMarks, IsTree, Event, Piece, Segment}
+use Rattle.mls_geom.specs.Sweep.Events.{moved}
 use Rattle.mls_geom.proofs.EventSteps.{AreEvents-rest, IsNonDecreasingBy-before, IsPartedAt, IsPartedAt-point, after_events, after_events-all, after_events-more, after_events-none, event_at, piece_known}
 use Rattle.mls_geom.proofs.PlantedPieces.{IsNext-event, planted_end}
 use Rattle.mls_geom.proofs.TopPieces.{HaveChangedTops-none, HaveChangedTops-then}

@@ -1,9 +1,6 @@
 -- The pieces of the events so far have moved.
 use Rattle.std.proofs.Common.{◌≡◌, ℕ, List}
-use Rattle.mls_geom.specs.Sweep.Events.{Awaits, HaveChangedTops, present_before}
-use Rattle.mls_geom.specs.Sweep.KeptRows.{AreMarks, IsMarked}
-use Rattle.mls_geom.specs.Sweep.Trees.{IsTree}
-use Rattle.mls_geom.specs.declared.piece.Piece.{Piece}
+use Rattle.mls_geom.proofs.Definitions.{Awaits, HaveChangedTops, present_before, AreMarks, IsMarked, IsTree, Piece}
 use Rattle.mls_geom.proofs.EventSteps.{after_events}
 use Rattle.mls_geom.proofs.kept_sweep.move_pieces.Given as goal
 

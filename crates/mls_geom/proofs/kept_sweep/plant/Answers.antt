@@ -1,8 +1,6 @@
 -- Each piece reaches from one of the lines to another, and they ascend.
 use Rattle.std.proofs.Common.{refl, ◌≡◌, length, sym, ap, ◌∙◌, subst, arith}
-use Rattle.mls_geom.specs.Rects.{Rect}
-use Rattle.mls_geom.specs.Sweep.Slots.{IsBetweenLines}
-use Rattle.mls_geom.specs.declared.piece.Piece.{Piece}
+use Rattle.mls_geom.proofs.Definitions.{Rect, IsBetweenLines, Piece}
 use Rattle.mls_geom.proofs.CutLines.{before_from_less}
 use Rattle.mls_geom.proofs.PlantedPieces.{AreFirstPlanted-none, AreFirstPlanted-push, ArePlanted-all, some_found}
 use Rattle.mls_geom.proofs.EmptyTrees.{IsTree-added}

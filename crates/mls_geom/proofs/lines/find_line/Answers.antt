@@ -1,12 +1,5 @@
 -- A failed search would place a line that is listed neither left nor right of the index that it returns.
-use Rattle.std.proofs.Common.{ℕ, Ok, Err, Result, List, IfNone, inl, inr, arith}
-use Rattle.std.specs.List.{Contains}
-use Rattle.std.specs.List.Sorted.{IsBinarySearchResult, IsStrictlyIncreasing}
-use Rattle.std.specs.Ordering.{nat_cmp}
-use Rattle.std.specs.Result.{result_ok}
-use Rattle.std.proofs.lemmas.Bool.{cases_lt}
-use Rattle.std.proofs.lemmas.List.{get_or_default}
-use Rattle.std.proofs.lemmas.List.Sorted.{searched}
+use Rattle.mls_geom.proofs.Common.{ℕ, Ok, Err, Result, List, IfNone, inl, inr, arith, Contains, IsBinarySearchResult, IsStrictlyIncreasing, nat_cmp, result_ok, cases_lt, get_or_default, searched}
 use Rattle.mls_geom.proofs.CutLines.{rises}
 use Rattle.mls_geom.proofs.lines.find_line.Goals as goal
 

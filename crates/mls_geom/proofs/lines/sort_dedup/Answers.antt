@@ -1,8 +1,5 @@
 -- Duplicates in sorted lines stand side by side, so what `dedup` leaves ascends.
-use Rattle.std.proofs.lemmas.List.Filters.{dedup_is}
-use Rattle.std.proofs.lemmas.List.Kept.{Contains-dedup_nat, Contains-from_dedup}
-use Rattle.std.proofs.lemmas.List.Sorted.{Contains-permutation, IsPermutation-sym}
-use Rattle.std.proofs.lemmas.Map.Keys.{IsStrictlyIncreasing-dedup}
+use Rattle.mls_geom.proofs.Common.{dedup_is, Contains-dedup_nat, Contains-from_dedup, Contains-permutation, IsPermutation-sym, IsStrictlyIncreasing-dedup}
 use Rattle.mls_geom.proofs.lines.sort_dedup.Goals as goal
 
 pub returns-clause-ascending : goal.returns-clause-ascending

@@ -1,11 +1,6 @@
 -- Each piece widens the bounds as far as it reaches.
-use Rattle.std.proofs.Common.{◌<◌, take, subst, arith}
-use Rattle.std.proofs.lemmas.List.{take_all}
-use Rattle.std.proofs.lemmas.List.Elements.{All-more, All-weaker}
-use Rattle.mls_geom.specs.Locality.{uncovered}
-use Rattle.mls_geom.specs.Rects.{Rect, IsRectangleIn, joined}
-use Rattle.mls_geom.specs.World.{world}
-use Rattle.mls_geom.specs.declared.piece.Piece.{Piece}
+use Rattle.mls_geom.proofs.Common.{◌<◌, take, subst, arith, take_all, All-more, All-weaker}
+use Rattle.mls_geom.proofs.Definitions.{uncovered, Rect, IsRectangleIn, joined, world, Piece}
 use Rattle.mls_geom.proofs.JoinedRects.{IsRectangleIn-joined, IsRectangleIn-joined_itself}
 use Rattle.mls_geom.proofs.pieces.bounds.Goals as goal
 

@@ -1,8 +1,5 @@
-use Rattle.std.proofs.Common.{take}
-use Rattle.std.specs.List.{All}
-use Rattle.mls_geom.specs.Locality.{HaveKinds}
-use Rattle.mls_geom.specs.Rects.{IsRectangleIn}
-use Rattle.mls_geom.specs.World.{AreLegal}
+use Rattle.mls_geom.proofs.Common.{take, All}
+use Rattle.mls_geom.proofs.Definitions.{HaveKinds, IsRectangleIn, AreLegal}
 use Rattle.mls_geom.proofs.pieces.bounds.Given as goal
 
 abbrev pub invariant-loop-piece : goal.invariant-loop-piece

@@ -1,11 +1,6 @@
 -- Both lines of this turn's piece were found.
-use Rattle.std.proofs.Common.{◌≡◌, ℕ, ◌<◌, List, length, slice_index, slice_get, IsSomeAnd, subst, ap, ◌∙◌}
-use Rattle.std.specs.List.{Contains}
-use Rattle.std.proofs.lemmas.List.{take_all}
-use Rattle.std.proofs.lemmas.List.Elements.{All-more, Contains-get_or}
-use Rattle.std.proofs.lemmas.Option.{slice_get-get_or}
-use Rattle.mls_geom.specs.Rects.{Rect}
-use Rattle.mls_geom.specs.Sweep.Slots.{IsBetweenLines}
+use Rattle.mls_geom.proofs.Common.{◌≡◌, ℕ, ◌<◌, List, length, slice_index, slice_get, IsSomeAnd, subst, ap, ◌∙◌, Contains, take_all, All-more, Contains-get_or, slice_get-get_or}
+use Rattle.mls_geom.proofs.Definitions.{Rect, IsBetweenLines}
 use Rattle.mls_geom.proofs.row.are_between.Goals as goal
 
 found_in : (lines : List ℕ) (index line : ℕ) → index < length lines → slice_index lines index ≡ line → Contains lines line

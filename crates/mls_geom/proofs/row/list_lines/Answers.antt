@@ -1,9 +1,6 @@
 -- `sort_dedup` keeps the lines, so that the first and the last are the world's.
-use Rattle.std.proofs.Common.{slice_index, ap, ◌∙◌, arith}
-use Rattle.std.proofs.lemmas.List.{take_all}
-use Rattle.std.proofs.lemmas.Option.{slice_get-get_or}
-use Rattle.mls_geom.specs.Rects.{Rect}
-use Rattle.mls_geom.specs.World.{world}
+use Rattle.mls_geom.proofs.Common.{slice_index, ap, ◌∙◌, arith, take_all, slice_get-get_or}
+use Rattle.mls_geom.proofs.Definitions.{Rect, world}
 use Rattle.mls_geom.proofs.RowLines.{AreBetweenLines-from_lines, AreCuts-from_lines, AreLines-push}
 use Rattle.mls_geom.proofs.row.list_lines.Goals as goal
 

@@ -1,9 +1,6 @@
 -- A run that has the ends and the kind of one below it goes on with its strip, and any other begins one, since no other run below has the run's left line.
-use Rattle.std.proofs.Common.{◌≡◌, ◌≢◌, ◌<◌, ◌≤◌, get_or, length, refl, sym, ◌∙◌, arith}
-use Rattle.std.proofs.lemmas.Bool.{false≢true}
-use Rattle.std.proofs.lemmas.List.{get_or_default}
-use Rattle.mls_geom.specs.Sweep.Changing.{strip_of}
-use Rattle.mls_geom.specs.World.{world}
+use Rattle.mls_geom.proofs.Common.{◌≡◌, ◌≢◌, ◌<◌, ◌≤◌, get_or, length, refl, sym, ◌∙◌, arith, false≢true, get_or_default}
+use Rattle.mls_geom.proofs.Definitions.{strip_of, world}
 use Rattle.mls_geom.proofs.KeptRuns.{bottom_low, no_strip, runs_of-extended}
 use Rattle.mls_geom.proofs.RowChanges.{IsChanging-new, IsChanging-on, IsChanging-too_many}
 use Rattle.mls_geom.proofs.StagedStrips.{runs_of-push}

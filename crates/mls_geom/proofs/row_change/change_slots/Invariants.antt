@@ -1,7 +1,6 @@
 -- Up to the slot the row is changed, whatever the picture is.
 use Rattle.std.proofs.Common.{◌≡◌, ℕ, ◌-◌, ◌≤◌, Bool, slice_index, vec_len}
-use Rattle.mls_geom.specs.Pictures.{Picture}
-use Rattle.mls_geom.specs.Sweep.Changing.{IsChanging, IsEnd, ShowsSlots, runs_of}
+use Rattle.mls_geom.proofs.Definitions.{Picture, IsChanging, IsEnd, ShowsSlots, runs_of}
 use Rattle.mls_geom.proofs.row_change.change_slots.Given as goal
 
 abbrev pub invariant-loop-first : goal.invariant-loop-first

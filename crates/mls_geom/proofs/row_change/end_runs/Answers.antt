@@ -1,8 +1,6 @@
 -- Each run's strip is ended, which all of them reach on.
-use Rattle.std.proofs.Common.{◌≡◌, ap, get_or, refl, ◌∙◌, arith}
-use Rattle.std.proofs.lemmas.List.{get_or_default}
-use Rattle.mls_geom.specs.Sweep.Stacks.{extended}
-use Rattle.mls_geom.specs.Sweep.Changing.{strip_of}
+use Rattle.mls_geom.proofs.Common.{◌≡◌, ap, get_or, refl, ◌∙◌, arith, get_or_default}
+use Rattle.mls_geom.proofs.Definitions.{extended, strip_of}
 use Rattle.mls_geom.proofs.KeptRuns.{bottom_below, runs_of-extended}
 use Rattle.mls_geom.proofs.RowChanges.{IsChanging-ended}
 use Rattle.mls_geom.proofs.row_change.end_runs.Goals as goal

@@ -1,7 +1,6 @@
 -- The strips of the runs before the index are ended, whatever the picture is.
 use Rattle.std.proofs.Common.{◌≡◌, ℕ, List, vec_len}
-use Rattle.mls_geom.specs.Pictures.{Picture}
-use Rattle.mls_geom.specs.Sweep.Changing.{IsChanging, runs_of}
+use Rattle.mls_geom.proofs.Definitions.{Picture, IsChanging, runs_of}
 use Rattle.mls_geom.proofs.row_change.end_runs.Given as goal
 
 abbrev pub invariant-loop-index : goal.invariant-loop-index

@@ -1,5 +1,4 @@
-use Rattle.std.proofs.Common.{◌-◌, ◌<◌, ◌≤◌}
-use Rattle.std.specs.List.{AllWithin}
+use Rattle.mls_geom.proofs.Common.{◌-◌, ◌<◌, ◌≤◌, AllWithin}
 use Rattle.mls_geom.specs.Sweep.KeptRows.{strip_at}
 use Rattle.mls_geom.proofs.row_change.first_at_or_after.Given as goal
 

@@ -1,6 +1,5 @@
 -- What is shown is compared kind by kind.
-use Rattle.std.proofs.Common.{◌≡◌, ◌≢◌, inl, inr, sym, ◌∙◌, arith}
-use Rattle.std.proofs.lemmas.Bool.{cases_lt}
+use Rattle.mls_geom.proofs.Common.{◌≡◌, ◌≢◌, inl, inr, sym, ◌∙◌, arith, cases_lt}
 use Rattle.mls_geom.proofs.ShownRuns.{differ_from_test, same_from_test}
 use Rattle.mls_geom.proofs.row_change.stretch.Goals as goal
 use Rattle.mls_geom.proofs.row_change.stretch.Goals.{else-loop-end-test, then-loop-end-test+then-ne}

@@ -1,7 +1,5 @@
 -- A slot that shows the same kind has the same one, since kinds are bytes.
-use Rattle.std.proofs.Common.{◌≢◌, ℕ, ◌-◌, ◌<◌, Option, Some, None, IfSome, get_or, refl, sym, ap, ◌∙◌, arith, rules}
-use Rattle.std.proofs.lemmas.List.{get_or_default}
-use Rattle.std.specs.Option.{unwrap_or}
+use Rattle.mls_geom.proofs.Common.{◌≢◌, ℕ, ◌-◌, ◌<◌, Option, Some, None, IfSome, get_or, refl, sym, ap, ◌∙◌, arith, rules, get_or_default, unwrap_or}
 use Rattle.mls_geom.specs.Locality.{uncovered}
 use Rattle.mls_geom.proofs.run.end_of_kind.Goals as goal
 

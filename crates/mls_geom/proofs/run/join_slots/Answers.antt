@@ -1,7 +1,5 @@
 -- Slots that are alike, up to where that ends, are a run of the row and come right after those before it, or of no piece and in no run.
-use Rattle.std.proofs.Common.{◌≡◌, ◌-◌, ◌<◌, length, ap, ◌∙◌, arith}
-use Rattle.std.specs.Option.{unwrap_or}
-use Rattle.std.proofs.lemmas.List.{get_or_default}
+use Rattle.mls_geom.proofs.Common.{◌≡◌, ◌-◌, ◌<◌, length, ap, ◌∙◌, arith, unwrap_or, get_or_default}
 use Rattle.mls_geom.specs.Locality.{uncovered}
 use Rattle.mls_geom.specs.Sweep.Slots.{shown}
 use Rattle.mls_geom.proofs.Joining.{AreRunsBefore-push, AreRunsBefore-uncovered}

@@ -1,9 +1,7 @@
 -- The runs so far are those left of the loop's slot, where the kind changes. There are no more of them than slots.
 use Rattle.std.proofs.Common.{◌≡◌, ◌≢◌, ℕ, ◌-◌, ◌<◌, ◌≤◌, length, slice_index, vec_len, vec_capacity}
-use Rattle.mls_geom.specs.Rects.{Rect}
-use Rattle.mls_geom.specs.Pictures.{Picture}
-use Rattle.mls_geom.specs.Sweep.Slots.{AreCuts, AreSlotKinds, shown}
-use Rattle.mls_geom.specs.Sweep.Changing.{AreRunsBefore}
+use Rattle.mls_geom.proofs.Definitions.{Rect, Picture, AreCuts, AreSlotKinds, AreRunsBefore}
+use Rattle.mls_geom.specs.Sweep.Slots.{shown}
 use Rattle.mls_geom.proofs.run.join_slots.Given as goal
 
 abbrev pub invariant-loop-first : goal.invariant-loop-first

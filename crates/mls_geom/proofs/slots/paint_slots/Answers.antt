@@ -1,11 +1,6 @@
 -- This turn's piece lies over those visited, and fills the slots between its lines.
-use Rattle.std.proofs.Common.{◌≡◌, ◌-◌, ◌≤◌, ◌&&◌, if◌then◌else◌, nat_le, nat_lt, Some, length, slice_get, slice_index, drop, replicate, take, refl, sym, ap, ◌∙◌, arith, rules}
-use Rattle.std.proofs.lemmas.List.{length-drop, length-take-le, take_all}
-use Rattle.std.proofs.lemmas.List.Elements.{Contains-get_or}
-use Rattle.std.proofs.lemmas.Option.{slice_get_read}
-use Rattle.mls_geom.specs.Locality.{uncovered}
-use Rattle.mls_geom.specs.Rects.{Rect}
-use Rattle.mls_geom.specs.Sweep.Slots.{IsBetweenLines}
+use Rattle.mls_geom.proofs.Common.{◌≡◌, ◌-◌, ◌≤◌, ◌&&◌, if◌then◌else◌, nat_le, nat_lt, Some, length, slice_get, slice_index, drop, replicate, take, refl, sym, ap, ◌∙◌, arith, rules, length-drop, length-take-le, take_all, Contains-get_or, slice_get_read}
+use Rattle.mls_geom.proofs.Definitions.{uncovered, Rect, IsBetweenLines}
 use Rattle.mls_geom.proofs.ActivePieces.{named_within, overlaid_active, pieces_at, pieces_at-push}
 use Rattle.mls_geom.proofs.CutLines.{before_from_less, holds-indices}
 use Rattle.mls_geom.proofs.FilledSlots.{HaveBytes-filled, length-filled, shown-filled}

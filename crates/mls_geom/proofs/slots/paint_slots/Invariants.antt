@@ -1,8 +1,7 @@
 -- The slots show the pieces visited, over nothing.
 use Rattle.std.proofs.Common.{◌≡◌, ℕ, ◌+◌, ◌<◌, ◌≤◌, length, slice_index, take}
-use Rattle.mls_geom.specs.Locality.{laid}
-use Rattle.mls_geom.specs.Sweep.Rows.{AreActive}
-use Rattle.mls_geom.specs.Sweep.Slots.{HaveBytes, shown}
+use Rattle.mls_geom.proofs.Definitions.{laid, AreActive, HaveBytes}
+use Rattle.mls_geom.specs.Sweep.Slots.{shown}
 use Rattle.mls_geom.proofs.ActivePieces.{pieces_at}
 use Rattle.mls_geom.proofs.slots.paint_slots.Given as goal
 

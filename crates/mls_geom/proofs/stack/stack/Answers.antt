@@ -1,6 +1,5 @@
 -- Each iteration stacks one run more, whatever the picture is that the strips and the runs are of; that there is one keeps the indices and the lines legal.
-use Rattle.std.proofs.Common.{◌≡◌, ◌-◌, ◌<◌, ◌∙◌, ap, length, set, vec_capacity, vec_len, arith, refl}
-use Rattle.std.proofs.lemmas.Bool.{false≢true}
+use Rattle.mls_geom.proofs.Common.{◌≡◌, ◌-◌, ◌<◌, ◌∙◌, ap, length, set, vec_capacity, vec_len, arith, refl, false≢true}
 use Rattle.mls_geom.specs.Sweep.Stacks.{extended}
 use Rattle.mls_geom.proofs.RowStacking.{BeginsAt-found, IsRowStacked-new_strip, IsRowStacked-end, IsRowStacked-extended, IsRowStacked-start, IsStripUnder-named, length-lt-covered_count_of_row}
 use Rattle.mls_geom.proofs.stack.stack.Goals as goal

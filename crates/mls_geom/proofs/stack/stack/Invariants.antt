@@ -1,8 +1,5 @@
 use Rattle.std.proofs.Common.{◌≡◌, ◌≤◌, length, vec_capacity, vec_len}
-use Rattle.mls_geom.specs.Pictures.{Picture}
-use Rattle.mls_geom.specs.Sweep.Rows.{AreRuns}
-use Rattle.mls_geom.specs.Sweep.Stacks.{AreAlike, AreStacked}
-use Rattle.mls_geom.specs.World.{world}
+use Rattle.mls_geom.proofs.Definitions.{Picture, AreRuns, AreAlike, AreStacked, world}
 use Rattle.mls_geom.proofs.RowStacking.{IsRowStacked}
 use Rattle.mls_geom.proofs.stack.stack.Given as goal
 

@@ -1,5 +1,4 @@
-use Rattle.std.proofs.Common.{◌-◌, ◌<◌, ◌≤◌, length}
-use Rattle.std.specs.List.{AllWithin}
+use Rattle.mls_geom.proofs.Common.{◌-◌, ◌<◌, ◌≤◌, length, AllWithin}
 use Rattle.mls_geom.proofs.stack.strip_below.Given as goal
 
 abbrev pub invariant-loop-index : goal.invariant-loop-index

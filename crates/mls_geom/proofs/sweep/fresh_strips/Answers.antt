@@ -1,10 +1,5 @@
 use Rattle.std.proofs.Common.{◌≡◌, ℕ, ◌+◌, ◌++◌, List, length, ap, ◌∙◌, subst, arith}
-use Rattle.mls_geom.specs.Locality.{AreCoveredStrips, AreUnorderedStrips, AreUntouched, HaveKinds, covered_count, laid}
-use Rattle.mls_geom.specs.Pictures.{overlaid}
-use Rattle.mls_geom.specs.Rects.{IsRectangleIn}
-use Rattle.mls_geom.specs.TileCounts.{tile_count}
-use Rattle.mls_geom.specs.World.{AreLegal, world}
-use Rattle.mls_geom.specs.declared.piece.Piece.{Piece}
+use Rattle.mls_geom.proofs.Definitions.{AreCoveredStrips, AreUnorderedStrips, AreUntouched, HaveKinds, covered_count, laid, overlaid, IsRectangleIn, tile_count, AreLegal, world, Piece}
 use Rattle.mls_geom.proofs.CoveredCounts.{covered_strips_number, fresh_strips_number}
 use Rattle.mls_geom.proofs.ListLemmas.{All-append_right}
 use Rattle.mls_geom.proofs.StripPictures.{IsRectangleIn-IsStrip}

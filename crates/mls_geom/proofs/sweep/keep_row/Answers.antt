@@ -1,8 +1,6 @@
 -- The strips that were found number the covered corners, and there are no more than the limit.
-use Rattle.std.proofs.Common.{arith}
-use Rattle.std.proofs.lemmas.Bool.{false≢true}
-use Rattle.mls_geom.specs.Locality.{laid}
-use Rattle.mls_geom.specs.World.{world}
+use Rattle.mls_geom.proofs.Common.{arith, false≢true}
+use Rattle.mls_geom.proofs.Definitions.{laid, world}
 use Rattle.mls_geom.proofs.CoveredCounts.{covered_strips_number}
 use Rattle.mls_geom.proofs.sweep.keep_row.Goals as goal
 

@@ -1,9 +1,6 @@
 -- `sort_dedup` keeps the lines, so that the first and the last are the world's.
-use Rattle.std.proofs.Common.{◌≡◌, ap, get_or, ◌∙◌, arith}
-use Rattle.std.proofs.lemmas.List.{take_all}
-use Rattle.mls_geom.specs.Rects.{Rect}
-use Rattle.mls_geom.specs.World.{world}
-use Rattle.mls_geom.specs.declared.piece.Piece.{Piece}
+use Rattle.mls_geom.proofs.Common.{◌≡◌, ap, get_or, ◌∙◌, arith, take_all}
+use Rattle.mls_geom.proofs.Definitions.{Rect, world, Piece}
 use Rattle.mls_geom.proofs.KeptRuns.{IsKept-none}
 use Rattle.mls_geom.proofs.RowLines.{All-between-from_lines, AreCuts-from_piece_lines, ArePieceLines-push}
 use Rattle.mls_geom.proofs.kept_row.KeptRow.begin.Goals as goal

@@ -1,15 +1,6 @@
 -- Before each change, and after the last one, the row below goes on.
-use Rattle.std.proofs.Common.{◌≡◌, ℕ, ◌+◌, ◌-◌, ◌<◌, ◌≤◌, ◌++◌, Bool, Err, length, ap, refl, sym, ◌∙◌, arith, rules, slice_index, slice_range}
-use Rattle.std.specs.List.{AllWithin}
-use Rattle.std.specs.List.Sorted.{IsNonDecreasingBy}
-use Rattle.std.proofs.lemmas.Bool.Decides.{nat_tests}
-use Rattle.std.proofs.lemmas.List.{take_all}
-use Rattle.std.proofs.lemmas.List.Sorted.{All-permutation, IsNonDecreasingBy-from_sort_by_key, IsPermutation-refl}
-use Rattle.mls_geom.specs.Pictures.{Picture}
-use Rattle.mls_geom.specs.Sweep.Changing.{AreInOrder, IsBand, IsChange, IsChanging, ShowsSlots, runs_of}
-use Rattle.mls_geom.specs.Sweep.KeptRows.{AwaitsChange, strip_at}
-use Rattle.mls_geom.specs.World.{world}
-use Rattle.mls_geom.specs.declared.part.Span.{Span}
+use Rattle.mls_geom.proofs.Common.{◌≡◌, ℕ, ◌+◌, ◌-◌, ◌<◌, ◌≤◌, ◌++◌, Bool, Err, length, ap, refl, sym, ◌∙◌, arith, rules, slice_index, slice_range, AllWithin, IsNonDecreasingBy, nat_tests, take_all, All-permutation, IsNonDecreasingBy-from_sort_by_key, IsPermutation-refl}
+use Rattle.mls_geom.proofs.Definitions.{Picture, AreInOrder, IsBand, IsChange, IsChanging, ShowsSlots, runs_of, AwaitsChange, strip_at, world, Span}
 use Rattle.mls_geom.proofs.ChangedRows.{IsDone-more, IsDone-none, IsKept-rest, beyond_right, changing_up_to, met_left, passed_to, runs_below}
 use Rattle.mls_geom.proofs.RowChanges.{IsChanging-start}
 use Rattle.mls_geom.proofs.RowRuns.{AreInOrder-runs}

@@ -1,9 +1,6 @@
 -- Up to a column the row is changed, whatever the picture is.
 use Rattle.std.proofs.Common.{◌≡◌, ℕ, ◌-◌, ◌≤◌, Bool, length, vec_len}
-use Rattle.mls_geom.specs.Pictures.{Picture}
-use Rattle.mls_geom.specs.Sweep.Changing.{IsBand, IsChanging, runs_of}
-use Rattle.mls_geom.specs.Sweep.KeptRows.{AwaitsChange}
-use Rattle.mls_geom.specs.World.{world}
+use Rattle.mls_geom.proofs.Definitions.{Picture, IsBand, IsChanging, runs_of, AwaitsChange, world}
 use Rattle.mls_geom.proofs.ChangedRows.{IsDone}
 use Rattle.mls_geom.proofs.kept_row.KeptRow.change.Given as goal
 

@@ -1,12 +1,6 @@
 -- The runs that the mark meets or touches are those between what the two searches find.
-use Rattle.std.proofs.Common.{◌≡◌, ◌≤◌, ◌<◌, ap, get_or, slice_index, sym, ◌∙◌, ◌-◌, arith, rules}
-use Rattle.std.specs.List.Sorted.{IsPartitionPoint}
-use Rattle.std.proofs.lemmas.List.{get_or_default, length-map}
-use Rattle.std.proofs.lemmas.List.Sorted.{IsPartitionPoint-from_clause}
-use Rattle.mls_geom.specs.Rects.{Rect}
-use Rattle.mls_geom.specs.Sweep.KeptRows.{run_of}
-use Rattle.mls_geom.specs.Sweep.Changing.{begins_by, ends_before, runs_of}
-use Rattle.mls_geom.specs.declared.run.Run.{Run}
+use Rattle.mls_geom.proofs.Common.{◌≡◌, ◌≤◌, ◌<◌, ap, get_or, slice_index, sym, ◌∙◌, ◌-◌, arith, rules, IsPartitionPoint, get_or_default, length-map, IsPartitionPoint-from_clause}
+use Rattle.mls_geom.proofs.Definitions.{Rect, run_of, begins_by, ends_before, runs_of, Run}
 use Rattle.mls_geom.proofs.KeptRuns.{begins_point, ends_point, run_read}
 use Rattle.mls_geom.proofs.MarkedRuns.{IsChangeOf-alone, IsChangeOf-runs}
 use Rattle.mls_geom.proofs.kept_row.KeptRow.change_of.Goals as goal

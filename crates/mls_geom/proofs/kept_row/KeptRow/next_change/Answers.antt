@@ -1,8 +1,6 @@
 -- Each mark more widens the slots, until one meets none of them.
-use Rattle.std.proofs.Common.{◌≡◌, sym, ◌∙◌, ◌<◌, arith, get_or, length}
-use Rattle.std.proofs.lemmas.List.{get_or_default}
-use Rattle.mls_geom.specs.Sweep.Changing.{runs_of}
-use Rattle.mls_geom.specs.declared.part.Span.{Span}
+use Rattle.mls_geom.proofs.Common.{◌≡◌, sym, ◌∙◌, ◌<◌, arith, get_or, length, get_or_default}
+use Rattle.mls_geom.proofs.Definitions.{runs_of, Span}
 use Rattle.mls_geom.proofs.MarkedRuns.{AreMet-more, AreMet-one, IsChange-apart}
 use Rattle.mls_geom.proofs.kept_row.KeptRow.next_change.Goals as goal
 

@@ -1,16 +1,7 @@
 -- At the bottom line of a band pieces begin and end, and the row changes where their marks are. Up to its top line nothing else happens.
-use Rattle.std.proofs.Common.{◌≡◌, ◌+◌, ◌-◌, ◌≤◌, Err, Vec, Global, length, get_or, refl, sym, ap, ◌∙◌, subst, arith}
-use Rattle.std.proofs.lemmas.List.{get_or_read}
-use Rattle.std.proofs.lemmas.Result.{err_from_is_err_and}
-use Rattle.mls_geom.specs.Locality.{laid}
+use Rattle.mls_geom.proofs.Common.{◌≡◌, ◌+◌, ◌-◌, ◌≤◌, Err, Vec, Global, length, get_or, refl, sym, ap, ◌∙◌, subst, arith, get_or_read, err_from_is_err_and}
+use Rattle.mls_geom.proofs.Definitions.{laid, ArePlanted, Awaits, HaveChangedTops, bottom_of, is_above, is_below, is_met, top_of, AreMarks, AwaitsChange, HaveChanges, IsKept, ShowsRow, IsTree, world, Begins, Ends, Segment, TooMany}
 use Rattle.mls_geom.specs.Sweep.Changing as rows
-use Rattle.mls_geom.specs.Sweep.Events.{ArePlanted, Awaits, HaveChangedTops, bottom_of, is_above, is_below, is_met, top_of}
-use Rattle.mls_geom.specs.Sweep.KeptRows.{AreMarks, AwaitsChange, HaveChanges, IsKept, ShowsRow}
-use Rattle.mls_geom.specs.Sweep.Trees.{IsTree}
-use Rattle.mls_geom.specs.World.{world}
-use Rattle.mls_geom.specs.declared.chain.Step.TheVariants.{Begins, Ends}
-use Rattle.mls_geom.specs.declared.segment.Segment.{Segment}
-use Rattle.mls_geom.specs.declared.stopped.Stopped.TheVariants.{TooMany}
 use Rattle.mls_geom.proofs.BandLines.{IsBand-lines, IsLineOf-lines, first_line, last_line}
 use Rattle.mls_geom.proofs.BandRows.{AreAlike-band, IsBand}
 use Rattle.mls_geom.proofs.CornerCounts.{covered_count_up_to_grows}

@@ -1,9 +1,6 @@
 -- Before a band the tree has the pieces of the row below its bottom line, and the kept row is that row.
 use Rattle.std.proofs.Common.{◌≡◌, ◌-◌, ◌≤◌, [], slice_index, vec_len}
-use Rattle.mls_geom.specs.Locality.{laid}
-use Rattle.mls_geom.specs.Sweep.Events.{AreEvents, bottom_of, is_below, top_of}
-use Rattle.mls_geom.specs.Sweep.KeptRows.{IsKept}
-use Rattle.mls_geom.specs.Sweep.Trees.{IsTree}
+use Rattle.mls_geom.proofs.Definitions.{laid, AreEvents, bottom_of, is_below, top_of, IsKept, IsTree}
 use Rattle.mls_geom.proofs.kept_sweep.KeptSweep.sweep_bands.Given as goal
 
 abbrev pub invariant-loop-i : goal.invariant-loop-i

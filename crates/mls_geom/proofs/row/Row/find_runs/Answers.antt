@@ -1,8 +1,6 @@
 -- The lines cut the row into slots, which are painted and joined. No more pieces are active than there are, so all of it fits.
-use Rattle.std.proofs.Common.{◌≡◌, length, vec_len, arith}
-use Rattle.std.proofs.lemmas.List.{take_at}
-use Rattle.mls_geom.specs.Locality.{laid}
-use Rattle.mls_geom.specs.World.{world}
+use Rattle.mls_geom.proofs.Common.{◌≡◌, length, vec_len, arith, take_at}
+use Rattle.mls_geom.proofs.Definitions.{laid, world}
 use Rattle.mls_geom.proofs.ActivePieces.{active_fit, active_within}
 use Rattle.mls_geom.proofs.row.Row.find_runs.Goals as goal
 

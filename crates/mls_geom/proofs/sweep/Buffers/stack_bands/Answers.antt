@@ -1,11 +1,6 @@
 -- A band lies between neighbouring lines, so its rows are alike.
-use Rattle.std.proofs.Common.{◌≡◌, ◌+◌, ◌-◌, ◌≤◌, length, get_or, arith}
-use Rattle.std.proofs.lemmas.List.{get_or_read, with_items_is}
-use Rattle.std.proofs.lemmas.Result.{err_from_is_err_and}
-use Rattle.mls_geom.specs.Locality.{laid}
-use Rattle.mls_geom.specs.Sweep.Rows.{AreRuns}
-use Rattle.mls_geom.specs.Sweep.Stacks.{AreStacked}
-use Rattle.mls_geom.specs.World.{world}
+use Rattle.mls_geom.proofs.Common.{◌≡◌, ◌+◌, ◌-◌, ◌≤◌, length, get_or, arith, get_or_read, with_items_is, err_from_is_err_and}
+use Rattle.mls_geom.proofs.Definitions.{laid, AreRuns, AreStacked, world}
 use Rattle.mls_geom.proofs.Activation.{ArePartedAt-starts, ArePartedAt-up}
 use Rattle.mls_geom.proofs.BandLines.{IsBand-lines, IsLineOf-lines, first_line, last_line}
 use Rattle.mls_geom.proofs.BandRows.{AreAlike-band, IsBand}

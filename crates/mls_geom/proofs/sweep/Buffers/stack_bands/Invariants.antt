@@ -1,10 +1,5 @@
 use Rattle.std.proofs.Common.{◌≡◌, ℕ, ◌+◌, ◌-◌, ◌*◌, ◌≤◌, length, slice_index, vec_len, vec_capacity}
-use Rattle.mls_geom.specs.Sweep.ActivePieces.{ArePartedAt}
-use Rattle.mls_geom.specs.Locality.{laid}
-use Rattle.mls_geom.specs.Sweep.RowRooms.{HasRowRoom}
-use Rattle.mls_geom.specs.Sweep.Stacks.{AreStacked}
-use Rattle.mls_geom.specs.Sweep.SweepRooms.{HasSweepRoom}
-use Rattle.mls_geom.specs.World.{world}
+use Rattle.mls_geom.proofs.Definitions.{ArePartedAt, laid, HasRowRoom, AreStacked, HasSweepRoom, world}
 use Rattle.mls_geom.proofs.sweep.Buffers.stack_bands.Given as goal
 
 abbrev pub invariant-loop-i : goal.invariant-loop-i

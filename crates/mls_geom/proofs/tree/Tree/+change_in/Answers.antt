@@ -1,8 +1,6 @@
 -- Where the part lies in the piece's span its topmost node is changed; otherwise one half is changed after the other.
 use Rattle.std.proofs.Common.{◌≡◌, ◌+◌, ◌^◌, suc, List, sym, ap, subst, ◌∙◌, arith}
-use Rattle.mls_geom.specs.declared.segment.Segment.{Segment}
-use Rattle.mls_geom.specs.Sweep.Chains.{stepped}
-use Rattle.mls_geom.specs.Sweep.Trees.{node_of, span_of, end_of, HasChanged}
+use Rattle.mls_geom.proofs.Definitions.{Segment, stepped, node_of, span_of, end_of, HasChanged}
 use Rattle.mls_geom.proofs.ShownSlots.{halves_of, span_read}
 use Rattle.mls_geom.proofs.ChangedChains.{HasChanged-apart, HasChanged-whole, HasChanged-halves}
 use Rattle.mls_geom.proofs.tree.Tree.+change_in.Goals as goal

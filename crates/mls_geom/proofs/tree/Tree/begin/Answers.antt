@@ -1,7 +1,5 @@
 -- No node has a chain.
-use Rattle.std.proofs.Common.{◌*◌, ◌-◌, [], arith}
-use Rattle.std.proofs.lemmas.List.{take_all}
-use Rattle.std.proofs.lemmas.Nat.{pow_pos}
+use Rattle.mls_geom.proofs.Common.{◌*◌, ◌-◌, [], arith, take_all, pow_pos}
 use Rattle.mls_geom.specs.declared.node.Node.{Node}
 use Rattle.mls_geom.proofs.EmptyTrees.{AreEmpty-copies, IsTree-empty}
 use Rattle.mls_geom.proofs.tree.Tree.begin.Goals as goal

@@ -1,10 +1,6 @@
 -- What is written belongs to the node, so the chains of other nodes stay.
-use Rattle.std.proofs.Common.{◌+◌, ◌^◌, ◌<◌, ℕ, List, None, length, refl, ◌∙◌, arith}
-use Rattle.std.proofs.lemmas.List.{get_or-set_same, get_or-set_other, get_or_default, length-set}
-use Rattle.mls_geom.specs.declared.node.Node.{Node}
-use Rattle.mls_geom.specs.declared.node.Shown.TheVariants.{Nothing}
-use Rattle.mls_geom.specs.Sweep.Chains.{IsChain, stepped}
-use Rattle.mls_geom.specs.Sweep.Trees.{AreLinked, end_of}
+use Rattle.mls_geom.proofs.Common.{◌+◌, ◌^◌, ◌<◌, ℕ, List, None, length, refl, ◌∙◌, arith, get_or-set_same, get_or-set_other, get_or_default, length-set}
+use Rattle.mls_geom.proofs.Definitions.{Node, Nothing, IsChain, stepped, AreLinked, end_of}
 use Rattle.mls_geom.proofs.LinkedNodes.{AreLinked-at, IsLinked-stepped}
 use Rattle.mls_geom.proofs.EachOfChain.{Each-stepped, Each-weaker}
 use Rattle.mls_geom.proofs.tree.Tree.change_at.Goals as goal

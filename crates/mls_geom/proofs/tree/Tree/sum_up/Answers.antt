@@ -1,12 +1,6 @@
 -- The topmost node is set, and bounds what the slots show; all others stay.
-use Rattle.std.proofs.Common.{◌≡◌, ◌≢◌, ℕ, ◌^◌, ◌<◌, max, None, length, set, inl, inr, refl, ap, ◌∙◌, arith}
-use Rattle.std.proofs.lemmas.Nat.{pow_pos}
-use Rattle.std.proofs.lemmas.Bool.{cases_eq}
-use Rattle.std.proofs.lemmas.List.{get_or-set_same, get_or-set_other, get_or_default, length-set}
-use Rattle.mls_geom.specs.declared.node.Node.{Node}
-use Rattle.mls_geom.specs.declared.node.Shown.TheVariants.{Nothing}
-use Rattle.mls_geom.specs.Sweep.Chains.{rank_of}
-use Rattle.mls_geom.specs.Sweep.Trees.{node_of, node_at, Agrees, Bounds}
+use Rattle.mls_geom.proofs.Common.{◌≡◌, ◌≢◌, ℕ, ◌^◌, ◌<◌, max, None, length, set, inl, inr, refl, ap, ◌∙◌, arith, pow_pos, cases_eq, get_or-set_same, get_or-set_other, get_or_default, length-set}
+use Rattle.mls_geom.proofs.Definitions.{Node, Nothing, rank_of, node_of, node_at, Agrees, Bounds}
 use Rattle.mls_geom.proofs.SummedNodes.{Bounds-over, AreSummed-summed_up, IsLinked-alike}
 use Rattle.mls_geom.proofs.tree.Tree.sum_up.Goals as goal
 
