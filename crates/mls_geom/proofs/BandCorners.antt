@@ -1,33 +1,9 @@
 -- The covered corners of a band of rows that are alike: they lie in its lowest row, and each begins a run that the row below doesn't have.
-use Rattle.mls_geom.proofs.Common.{◌≡◌, ◌≢◌, ℕ, ◌+◌, ◌-◌, ◌<◌, ◌≤◌, ◌&&◌, Bool, true, false, not, cond, refl, sym, ◌∙◌, inl, inr, le_refl, arith, eq-eqb, and_parts, and_from, or_from, ne_eqb, and_left, and_right, not_from_true, cases_Bool, cond-false, eqb-true, ltb-true, lt-ltb}
+use Rattle.mls_geom.proofs.Common.{◌≡◌, ◌≢◌, ℕ, ◌+◌, ◌-◌, ◌<◌, ◌≤◌, ◌&&◌, Bool, true, false, not, cond, refl, sym, ◌∙◌, inl, inr, le_refl, arith, eq-eqb, or_from, ne_eqb, and_left, and_right, not_from_true, cases_Bool, cond-false}
 use Rattle.mls_geom.proofs.Definitions.{Rect, Picture, AreAlike, up_to, IsRun, covered_count, uncovered, starts_run, goes_on_below, corner_at, corners_between}
 use Rattle.mls_geom.proofs.CornerCounts.{sum_by-between, sum_by-first, sum_by-none, covered_count-up_to}
 use Rattle.mls_geom.proofs.RowRuns.{IsRun-alike}
-use Rattle.mls_geom.proofs.RunTests.{starts_run-IsRun, run_end-IsRun, IsRun-from_tests}
-
--- a run goes on below where the row below has it too
-pub goes_on_below-IsRun :
-    {extent : Rect} {picture : Picture} {left right y kind : ℕ} → extent.bottom < y → IsRun extent picture left right y kind
-    → IsRun extent picture left right (y - 1) kind → goes_on_below extent picture left y ≡ true
-goes_on_below-IsRun {extent} {picture} {left} {right} {y} {kind} above run under =
-    let starts = starts_run-IsRun extent picture left right (y - 1) kind under in
-    let same_kind = under.one_kind left (le_refl left) under.wide ∙ sym (run.one_kind left (le_refl left) run.wide) in
-    let same_end = run_end-IsRun extent picture left right (y - 1) kind under ∙ sym (run_end-IsRun extent picture left right y kind run) in
-    and_from _ _ (and_from _ _ (and_from _ _ (lt-ltb extent.bottom y above) starts) (eq-eqb _ _ same_kind)) (eq-eqb _ _ same_end)
-
--- and only there
-pub IsRun-from_goes_on_below :
-    {extent : Rect} {picture : Picture} {left right y kind : ℕ} → IsRun extent picture left right y kind → goes_on_below extent picture left y ≡ true
-    → (extent.bottom < y) × IsRun extent picture left right (y - 1) kind
-IsRun-from_goes_on_below {extent} {picture} {left} {right} {y} {kind} run goes_on =
-    let within : left < extent.right = omega (arith, run.wide, run.to) in
-    let (kind_starts, same_end) = and_parts _ _ goes_on in
-    let (above_starts, same_kind) = and_parts _ _ kind_starts in
-    let (above, starts) = and_parts _ _ above_starts in
-    let ends = eqb-true _ _ same_end ∙ run_end-IsRun extent picture left right y kind run in
-    let shows = eqb-true _ _ same_kind ∙ run.one_kind left (le_refl left) run.wide in
-    let under = IsRun-from_tests extent picture left (y - 1) run.from within starts in
-    (ltb-true extent.bottom y above, rw (ends, shows) at under)
+use Rattle.mls_geom.proofs.RunTests.{starts_run-IsRun, IsRun-from_tests, goes_on_below-IsRun}
 
 -- above the lowest row of a band no square is a corner
 corner_at-above :
@@ -37,7 +13,7 @@ corner_at-above extent picture bottom top y x alike from above below left right 
   | inl starts ↦
       let run = IsRun-from_tests extent picture x y left right starts in
       let same = λ (z : ℕ) (left : extent.left ≤ z) (right : z < extent.right). alike z (y - 1) left right (omega arith) (omega arith) ∙ sym (alike z y left right (omega arith) below) in
-      cond-false _ 1 0 (and_left _ _ (and_right _ _ (not_from_true _ (goes_on_below-IsRun (omega arith) run (IsRun-alike (y - 1) same run)))))
+      cond-false _ 1 0 (and_left _ _ (and_right _ _ (not_from_true _ (goes_on_below-IsRun extent picture x _ y _ (omega arith) run (IsRun-alike (y - 1) same run)))))
   | inr runs_on ↦ cond-false _ 1 0 (and_left _ _ (and_left _ _ runs_on))
 ]
 

@@ -1,6 +1,6 @@
 -- What the sweep knows where a band begins.
-use Rattle.std.proofs.Common.{◌≡◌, ℕ, List, Result, Err, Vec, Global}
-use Rattle.mls_geom.proofs.Definitions.{AreEvents, ArePlanted, Awaits, line_of, present_before, IsTree, AreLegal, Step, Event, Piece, Segment, GaveUp, TooMany, Stopped, Tree}
+use Rattle.std.proofs.Common.{◌≡◌, ℕ, List, Vec, Global}
+use Rattle.mls_geom.proofs.Definitions.{AreEvents, ArePlanted, Awaits, line_of, present_before, IsTree, AreLegal, Step, Event, Piece, Segment, Tree}
 
 pub awaits :
     (step : Step) (lines : List ℕ) (pieces : List Piece) (line at : ℕ) (events : List Event) (tree : Tree) (segments : Vec Segment Global) → line ≡ at → AreLegal pieces
@@ -8,7 +8,3 @@ pub awaits :
     → Awaits step lines pieces line events tree
 awaits step lines pieces line at events tree segments is legal planted same are present =
     record { legal = legal; planted = rw same planted; steps = rw is are; present = present }
-
--- a sweep that gave up didn't find too many strips
-pub gave_up : {X : Type 0} (r : Result X Stopped) (e : Stopped) (P : Type 0) → r ≡ Err e → e ≡ GaveUp → r ≡ Err TooMany → P
-gave_up r e P is why many = let wrong = rw (is, why) at many in absurd cc

@@ -1,5 +1,5 @@
 -- Lists of which one element is replaced, or to which one is added at the end.
-use Rattle.mls_geom.proofs.Common.{◌≢◌, ℕ, zero, suc, ◌<◌, List, [], ◌∷◌, ◌++◌, length, get_or, set, All, slice_get, IsSomeAnd, inl, inr, ◌∙◌, suc-le-suc, le_of_suc-le-suc, arith, get_or-set_other, length-append, length-set, AllPairs, Any, HoldsAt, cases_eq, get_or-set_at, get_or_append_left, get_or_default, any-set}
+use Rattle.mls_geom.proofs.Common.{◌≢◌, ℕ, zero, suc, ◌<◌, List, [], ◌∷◌, ◌++◌, length, get_or, set, All, slice_get, IsSomeAnd, inl, inr, suc-le-suc, le_of_suc-le-suc, arith, get_or-set_other, length-set, AllPairs, Any, HoldsAt, cases_eq, get_or-set_at, get_or_default, any-set}
 
 -- what holds of the new element and of each other one
 pub All-set_others :
@@ -17,9 +17,6 @@ Any-set_kept P xs n y d kept (k, x, within, is, p) = elim (cases_eq k n) [
   | inl same ↦ any-set P xs n y (omega arith) (kept (rw (← same, get_or_default xs k d x within, is) p))
   | inr other ↦ (k, x, rw length-set within, rw (get_or-set_other xs n k y x other) is, p)
 ]
-
-pub Any-append : {X : Type 0} (P : X → Type 0) (xs ys : List X) → Any P xs → Any P (xs ++ ys)
-Any-append P xs ys (k, x, within, is, p) = (k, x, omega (arith, length-append xs ys), get_or_append_left xs ys x k within ∙ is, p)
 
 -- an element is replaced by one that stands in the same relations
 pub AllPairs-set :

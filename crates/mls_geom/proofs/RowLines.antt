@@ -1,19 +1,15 @@
 -- The lines that cut a row: those of the extent and of the pieces that the row meets.
-use Rattle.mls_geom.proofs.Common.{◌≡◌, ℕ, ◌+◌, ◌-◌, ◌<◌, ◌≤◌, ◌↔◌, List, [], ◌∷◌, ◌++◌, Option, Some, None, length, take, get_or, slice_index, slice_get, IsSomeAnd, refl, ◌∙◌, arith, rules, All, Contains, IsStrictlyIncreasing, get_or_default, All-contains, All-cons, All-more, All-nil, All-push, Contains-append_left, Contains-get_or, Contains-push}
+use Rattle.mls_geom.proofs.Common.{◌≡◌, ℕ, ◌+◌, ◌-◌, ◌<◌, ◌≤◌, ◌↔◌, List, [], ◌∷◌, ◌++◌, Some, length, take, get_or, slice_index, slice_get, IsSomeAnd, refl, ◌∙◌, arith, rules, All, Contains, IsStrictlyIncreasing, get_or_default, All-contains, All-cons, All-more, All-nil, All-push, Contains-append_left, Contains-get_or, Contains-push}
 use Rattle.mls_geom.proofs.Definitions.{Rect, AreBetweenLines, AreCuts, IsBetweenLines, Piece}
 use Rattle.mls_geom.proofs.CutLines.{rises}
-
--- what holds of a value that there is, if it follows from what holds of it already
-IsSomeAnd_then : {X : Type 0} (o : Option X) (P Q : X → Type 0) → ((x : X) → P x → Q x) → IsSomeAnd o P → IsSomeAnd o Q
-IsSomeAnd_then None P Q follows given = given
-IsSomeAnd_then (Some x) P Q follows given = follows x given
+use Rattle.mls_geom.proofs.ListLemmas.{IsSomeAnd-weaker}
 
 -- more lines keep pieces between lines
 AreBetweenLines_more :
     (lines more : List ℕ) (pieces : List Piece) (indices : List ℕ) → ((line : ℕ) → Contains lines line → Contains more line)
     → AreBetweenLines lines pieces indices → AreBetweenLines more pieces indices
 AreBetweenLines_more lines more pieces indices kept between = λ k d within.
-    IsSomeAnd_then _ (λ p. IsBetweenLines lines p.rect) (λ p. IsBetweenLines more p.rect)
+    IsSomeAnd-weaker _ (λ p. IsBetweenLines lines p.rect) (λ p. IsBetweenLines more p.rect)
     (λ p given. record { left = kept _ given.left; right = kept _ given.right }) (between k d within)
 
 -- the lines with both sides of a rectangle

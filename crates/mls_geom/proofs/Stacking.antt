@@ -1,10 +1,12 @@
 -- The strips of covered squares while a band is stacked on them from left to right: in the columns left of a line up to the band's top, in the others up to its bottom.
 use Rattle.mls_geom.proofs.Common.{◌≡◌, ◌≢◌, ℕ, ◌+◌, ◌-◌, ◌<◌, ◌≤◌, List, [], ◌∷◌, ◌++◌, length, get_or, set, IsTrue, true, inl, inr, le_refl, sym, ◌∙◌, arith, length-set, AllPairs, cases_lt, cases_order, false_from_ne_true, nat_tests, length_push, All-push, All-set, any-set, Any-push, all_pairs_push}
 use Rattle.mls_geom.proofs.Definitions.{Rect, Picture, up_to, extended, new_strip, AreCoveredStrips, covered_count, uncovered, IsRun, IsStrip, comes_before, goes_on_below, Piece, Run, HasSquare, IsBand, IsPartlyStacked, corners_between}
-use Rattle.mls_geom.proofs.BandCorners.{IsRun-from_goes_on_below, corners_between-grows, corners_between-run, corners_between-uncovered, covered_count-band, goes_on_below-IsRun}
+use Rattle.mls_geom.proofs.BandCorners.{corners_between-grows, corners_between-run, corners_between-uncovered, covered_count-band}
 use Rattle.mls_geom.proofs.Holds.{holds_between, between_holds}
-use Rattle.mls_geom.proofs.ListChanges.{All-set_others, AllPairs-set, Any-append, Any-set_kept}
+use Rattle.mls_geom.proofs.JoinedLists.{Any-append_left}
+use Rattle.mls_geom.proofs.ListChanges.{All-set_others, AllPairs-set, Any-set_kept}
 use Rattle.mls_geom.proofs.RowRuns.{AreOneRun, IsRun-alike, both_one_run, IsRun-extent, one_run}
+use Rattle.mls_geom.proofs.RunTests.{IsRun-below, goes_on_below-IsRun}
 use Rattle.mls_geom.proofs.StripEnds.{IsStrip-new_strip, IsStrip-higher, IsStrip-extended, one_bottom}
 
 -- the row below the line doesn't have the run
@@ -76,7 +78,7 @@ IsPartlyStacked-extended {extent} {picture} {bottom} {top} {strips} run n d band
     let strip = get_or strips n d in
     let stood = part.to_do n d within (omega (arith, same.left)) in
     let (above, under) = row_below run stood reaches same in
-    let goes_on = goes_on_below-IsRun above here under in
+    let goes_on = goes_on_below-IsRun extent picture _ _ _ _ above here under in
     let held_more = λ (x y : ℕ). holds_extended strip top x y (omega (arith, band.tall)) in
     record {
       done = All-set_others (λ strip. strip.rect.left < run.right → IsStrip (up_to top extent) picture strip) strips n (extended top strip) d
@@ -103,7 +105,7 @@ corner_begins :
     {extent : Rect} {picture : Picture} {bottom : ℕ} (run : Run) → IsRun extent picture run.left run.right bottom run.kind → run.kind ≢ uncovered → BeginsAt extent picture bottom run
     → corners_between extent picture bottom extent.left run.right ≡ corners_between extent picture bottom extent.left run.left + 1
 corner_begins {extent} {picture} {bottom} run here some begins =
-    let under = λ (goes_on : goes_on_below extent picture run.left bottom ≡ true). IsRun-from_goes_on_below here goes_on in
+    let under = λ (goes_on : goes_on_below extent picture run.left bottom ≡ true). IsRun-below extent picture _ _ _ _ here goes_on in
     let ends_below = false_from_ne_true _ (λ goes_on. begins (under goes_on).0 (under goes_on).1) in
     rw ends_below at (corners_between-run here some)
 
@@ -135,9 +137,9 @@ IsPartlyStacked-new_strip {extent} {picture} {bottom} {top} {strips} run band he
           (λ right. absurd (omega (arith, here.wide)));
       low = All-push (λ strip. strip.rect.bottom ≤ bottom) strips strip part.low (le_refl bottom);
       covered = All-push (λ strip. strip.kind ≢ uncovered) strips strip part.covered some;
-      below = λ x y inside shown. Any-append (HasSquare x y) strips (strip ∷ []) (part.below x y inside shown);
+      below = λ x y inside shown. Any-append_left (HasSquare x y) strips (strip ∷ []) (part.below x y inside shown);
       beside = λ x y left right above under shown. elim (cases_lt x run.left) [
-        | inl before ↦ Any-append (HasSquare x y) strips (strip ∷ []) (part.beside x y left before above under shown)
+        | inl before ↦ Any-append_left (HasSquare x y) strips (strip ∷ []) (part.beside x y left before above under shown)
         | inr from ↦ Any-push (HasSquare x y) strips strip (between_holds strip.rect x y from right above under)
       ];
       ordered = all_pairs_push (λ p q. IsTrue (comes_before p q)) strips strip part.ordered (λ k d inside. new_strip_last bottom top run (get_or strips k d) (part.low k d inside) (λ from. omega (arith, (part.to_do k d inside from).tall, (part.to_do k d inside from).to)));

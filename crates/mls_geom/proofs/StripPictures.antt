@@ -23,17 +23,18 @@ IsRectangleIn-IsStrip extent picture piece strip =
     let run = strip.rows piece.rect.bottom (le_refl piece.rect.bottom) strip.tall in
     record { left_in = run.from; wide = run.wide; right_in = run.to; bottom_in = strip.from; tall = strip.tall; top_in = strip.to }
 
--- strips in order are strips in any order
-comes_after : (p q : Piece) → IsTrue (comes_before p q) → p ≢ q
-comes_after p q before same =
+-- a piece that stands before another is another
+pub apart_from_order : (p q : Piece) → IsTrue (comes_before p q) → p ≢ q
+apart_from_order p q before same =
     let itself : IsTrue (comes_before q q) = subst (λ r. IsTrue (comes_before r q)) same before in
     grind (arith, nat_tests)
 
+-- strips in order are strips in any order
 pub AreUnorderedStrips-ordered : (extent : Rect) (picture : Picture) (list : List Piece) → AreStrips extent picture list → AreUnorderedStrips extent picture list
 AreUnorderedStrips-ordered extent picture list strips = record {
   each = strips.each;
   whole = strips.whole;
-  once = λ i j d before within. comes_after (get_or list i d) (get_or list j d) (strips.ordered i j d before within);
+  once = λ i j d before within. apart_from_order (get_or list i d) (get_or list j d) (strips.ordered i j d before within);
 }
 
 -- the strips of a picture show it in the extent

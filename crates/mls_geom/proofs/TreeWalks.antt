@@ -17,21 +17,6 @@ pub record IsWalkedTo (segments : List Segment) (nodes : List Node) (ranks : ℕ
   pub summed : AreSummed segments nodes ranks low part.first
   pub shows : (s : ℕ) → part.first ≤ s → s < part.first + part.width → shown ranks height 0 s ≡ max above (shown ranks low part.first s)
 
--- it begins with all slots
-IsWalkedTo-whole :
-    (tree : Tree) (present : ℕ → Bool) (slot : ℕ) (part : Part) (whole : IsTree tree present) → slot < tree.width → part.first ≡ 0 → part.width ≡ tree.width
-    → IsWalkedTo tree.segments.items tree.nodes.items (ranks_in whole) tree.width whole.height slot 0 part
-IsWalkedTo-whole tree present slot part whole within first width = record {
-  low = whole.height;
-  size = width ∙ whole.sizes.width;
-  within = omega (arith, first, width);
-  from = omega (arith, first);
-  to = omega (arith, first, width, within);
-  known = omega arith;
-  summed = rw first whole.summed;
-  shows = λ s from to. rw first (omega arith);
-}
-
 -- what slots of a part's left half show
 shown-left :
     (ranks : ℕ → ℕ) (h first s : ℕ) → s < first + 2 ^ h → shown ranks (suc h) first s ≡ max (ranks (node_of (suc h) first)) (shown ranks h first s)
@@ -52,7 +37,7 @@ two-halves (suc k) width is more =
     let two = twice k in
     (k, refl, omega (arith, is, two), omega (arith, is, two))
 
--- and goes on to the half that has the slot
+-- it goes on to the half that has the slot
 IsWalkedTo-half :
     (segments : List Segment) (nodes : List Node) (ranks : ℕ → ℕ) (width height slot above top : ℕ) (part half : Part)
     → IsWalkedTo segments nodes ranks width height slot above part → 1 < part.width
@@ -97,18 +82,6 @@ IsWalkedTo-half segments nodes ranks width height slot above top part half walke
                 all ∙ rw (here, sym node, first) (omega arith));
           }
     ]
-
--- what the topmost node of the part bounds: what its slots show, once the nodes above it are left out
-IsWalkedTo-bounds :
-    (segments : List Segment) (nodes : List Node) (ranks : ℕ → ℕ) (width height slot above s : ℕ) (part : Part)
-    → IsWalkedTo segments nodes ranks width height slot above part → slot ≤ s → s < part.first + part.width
-    → (below : ℕ) × (shown ranks height 0 s ≡ max above below) × Bounds segments (node_at nodes (2 * part.first + part.width - 1)) below
-IsWalkedTo-bounds segments nodes ranks width height slot above s part walked from to =
-    let first : part.first ≤ s = omega (arith, walked.from, from) in (
-      shown ranks walked.low part.first s,
-      walked.shows s first to,
-      rw walked.size (AreSummed-top segments nodes ranks walked.low part.first walked.summed s first (rw walked.size at to)),
-    )
 
 -- at the end of the walk all slots of the part show the greatest rank of its nodes
 IsWalkedTo-leaf :
@@ -157,7 +130,16 @@ HasWalkedTo-made (present, whole) walk =
 pub HasWalkedTo-whole :
     {tree : Tree} {slot : ℕ} {part : Part} → (present : ℕ → Bool) × IsTree tree present → slot < tree.width → part.first ≡ 0 → part.width ≡ tree.width
     → HasWalkedTo tree slot 0 part
-HasWalkedTo-whole has within first width = HasWalkedTo-made has (λ present whole. IsWalkedTo-whole _ present _ _ whole within first width)
+HasWalkedTo-whole has within first width = HasWalkedTo-made has (λ present whole. record {
+  low = whole.height;
+  size = width ∙ whole.sizes.width;
+  within = omega (arith, first, width);
+  from = omega (arith, first);
+  to = omega (arith, first, width, within);
+  known = omega arith;
+  summed = rw first whole.summed;
+  shows = λ s from to. rw first (omega arith);
+})
 
 -- the node that is looked up for a part is its topmost one
 pub node-looked_up :
@@ -201,10 +183,13 @@ pub HasWalkedTo-bounds :
     → node ≡ node_at tree.nodes.items (top_of part) → ((below : ℕ) → Bounds tree.segments.items node below → P (max above below))
     → (present : ℕ → Bool) (s : ℕ) → IsTree tree present → slot ≤ s → s < part.first + part.width
     → (rank : ℕ) × IsTop tree.segments.items present s rank × P rank
-HasWalkedTo-bounds P walk is all present s whole from to =
+HasWalkedTo-bounds {tree = tree} {part = part} P walk is all present s whole from to =
     let walked = walk.walked present whole in
-    let (below, shows, bounds) = IsWalkedTo-bounds _ _ (ranks_in whole) _ _ _ _ s _ walked from to in
-    (shown (ranks_in whole) whole.height 0 s, IsTop-shown _ present s whole (omega (arith, to, walked.within)), rw shows (all below (rw is bounds)))
+    let first : part.first ≤ s = omega (arith, walked.from, from) in
+    let below = shown (ranks_in whole) walked.low part.first s in
+    let bounds : Bounds tree.segments.items (node_at tree.nodes.items (top_of part)) below =
+    rw walked.size (AreSummed-top _ _ (ranks_in whole) walked.low part.first walked.summed s first (rw walked.size at to)) in
+    (shown (ranks_in whole) whole.height 0 s, IsTop-shown _ present s whole (omega (arith, to, walked.within)), rw (walked.shows s first to) (all below (rw is bounds)))
 
 -- what is so of the greatest rank of a slot's nodes is so of the one that it shows
 pub HasWalkedTo-leaf :

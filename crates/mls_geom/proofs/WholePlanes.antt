@@ -1,22 +1,15 @@
 -- Pieces laid on one piece of space, which is the whole extent, show in it what they show on an empty plane. So all its squares are covered,
 -- and the covered strips are all strips.
-use Rattle.mls_geom.proofs.Common.{◌≡◌, ◌≢◌, ℕ, ◌<◌, true, List, [], ◌∷◌, ◌++◌, arith, cond_both, All-head, All-tail}
-use Rattle.mls_geom.proofs.Definitions.{AreCoveredStrips, HaveKinds, covered_count, laid, uncovered, Picture, empty_picture, overlaid, painted, picture_of, Rect, holds, AreStrips, tile_count, Piece}
+use Rattle.mls_geom.proofs.Common.{◌≡◌, ◌≢◌, ℕ, ◌<◌, true, List, [], ◌∷◌, ◌++◌, arith, All-tail}
+use Rattle.mls_geom.proofs.Definitions.{AreCoveredStrips, HaveKinds, covered_count, laid, uncovered, empty_picture, overlaid, painted, picture_of, Rect, holds, AreStrips, tile_count, Piece}
 use Rattle.mls_geom.proofs.CoveredCounts.{tile_count-window}
 use Rattle.mls_geom.proofs.CoveredStrips.{IsStrip-shown, IsWindow}
 use Rattle.mls_geom.proofs.Overlays.{overlaid-at, overlaid_append, painted_inside}
+use Rattle.mls_geom.proofs.TouchedStrips.{overlaid_known}
 
 -- the extent as one piece of space
 abbrev pub space : Rect → Piece
 space extent = record { rect = extent; kind = 0 }
-
--- pieces over a square that has a kind leave it one
-overlaid_known :
-    (below : Picture) (pieces : List Piece) (x y : ℕ) → HaveKinds pieces → below x y < uncovered → overlaid below pieces x y < uncovered
-overlaid_known below [] x y kinds known = known
-overlaid_known below (piece ∷ pieces) x y kinds known =
-    overlaid_known (painted below piece) pieces x y (All-tail (λ p. p.kind < uncovered) piece pieces kinds)
-    (cond_both (holds piece.rect x y) piece.kind (below x y) (λ kind. kind < uncovered) (λ _. All-head (λ p. p.kind < uncovered) piece pieces kinds) (λ _. known))
 
 module _ (extent : Rect) (pieces : List Piece) (kinds : HaveKinds pieces) where
   shown_on_space : (x y : ℕ) → holds extent x y ≡ true → laid (space extent ∷ pieces) x y ≡ picture_of pieces x y

@@ -1,7 +1,7 @@
 -- Each turn passes one entry more.
 use Rattle.std.proofs.Common.{get_or, ◌≡◌, ◌<◌, length, arith}
 use Rattle.mls_geom.proofs.Definitions.{entry_at, end_of}
-use Rattle.mls_geom.proofs.ChainEntries.{end_read, IsChain-rest, IsFalling-right, IsOutlived-end, IsOutlived-more, IsOutlived-start, rank_at-under}
+use Rattle.mls_geom.proofs.ChainEntries.{end_read, IsChain-rest, IsFalling-right, IsOutlived-end, IsOutlived-more, rank_at-under}
 use Rattle.mls_geom.proofs.chain.first_after.Goals as goal
 use Rattle.mls_geom.proofs.chain.first_after.Goals.{After-index-segments-at, In-Some}
 
@@ -17,9 +17,6 @@ ends : (c : After-index-segments-at) → (entry_at c.args.entries.now c.in-Some.
     → ((get_or c.args.segments.now (entry_at c.args.entries.now c.in-Some.entry).piece c.index-segments-at.result).end ≡ end_of c.args.segments.now (entry_at c.args.entries.now c.in-Some.entry).piece)
     × ((get_or c.args.segments.now c.args.piece c.index-segments-piece.result).end ≡ end_of c.args.segments.now c.args.piece)
 ends c within = (end_read c.args.segments.now _ _ within, end_read c.args.segments.now _ _ c.requires.known)
-
-pub loop-next-init : goal.loop-next-init
-loop-next-init c = λ node chain chained. IsOutlived-start _ _ _ node chain _ chained
 
 pub bounds-entries-entry : goal.bounds-entries-entry
 bounds-entries-entry c = (in_lists (goal.at.bounds-entries-entry c).In-Some).0

@@ -1,7 +1,7 @@
 -- Each turn passes one entry more.
 use Rattle.std.proofs.Common.{get_or, ◌≡◌, ◌<◌, ◌++◌, Some, length, ap, sym, ◌∙◌, arith}
 use Rattle.mls_geom.proofs.Definitions.{entry_at, under_of, end_of}
-use Rattle.mls_geom.proofs.ChainEntries.{end_read, IsChain-rest, IsFalling-right, IsSplitAt-more, IsSplitAt-start, linked-hidden, rank_at-under}
+use Rattle.mls_geom.proofs.ChainEntries.{end_read, IsChain-rest, IsFalling-right, IsSplitAt-more, linked-hidden, rank_at-under}
 use Rattle.mls_geom.proofs.chain.place.Goals as goal
 use Rattle.mls_geom.proofs.chain.place.Goals.{After-index-segments-at, In-Some}
 
@@ -20,9 +20,6 @@ ends : (c : After-index-segments-at) → (entry_at c.args.entries.now c.in-Some.
     → ((get_or c.args.segments.now (entry_at c.args.entries.now c.in-Some.entry).piece c.index-segments-at.result).end ≡ end_of c.args.segments.now (entry_at c.args.entries.now c.in-Some.entry).piece)
     × ((get_or c.args.segments.now c.args.piece c.index-segments-piece.result).end ≡ end_of c.args.segments.now c.args.piece)
 ends c within = (end_read c.args.segments.now _ _ within, end_read c.args.segments.now _ _ c.requires.known)
-
-pub loop-under-init : goal.loop-under-init
-loop-under-init c = record { split = λ node chain chained. IsSplitAt-start _ _ _ node _ chain chained; under = cc }
 
 pub bounds-entries-entry : goal.bounds-entries-entry
 bounds-entries-entry c = (in_lists (goal.at.bounds-entries-entry c).In-Some).0

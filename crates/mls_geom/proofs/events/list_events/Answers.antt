@@ -4,13 +4,6 @@ use Rattle.mls_geom.proofs.Definitions.{line_of, world}
 use Rattle.mls_geom.proofs.EventLists.{AllPairs-before, AreEvents-sorted, AreListed-push, is_before}
 use Rattle.mls_geom.proofs.events.list_events.Goals as goal
 
-pub loop-i-init : goal.loop-i-init
-loop-i-init c =
-    rw c.clear.ensures.items (record {
-      listed = record { named = λ k d within. absurd (omega arith); whole = λ i before. absurd (omega arith) };
-      count = omega arith;
-      room = c.clear.ensures.capacity;
-    })
 
 pub loop-i-preserved : goal.loop-i-preserved
 loop-i-preserved c =

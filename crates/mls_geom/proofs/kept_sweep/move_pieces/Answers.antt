@@ -122,6 +122,3 @@ pub returns-clause-rest : goal.returns-clause-rest
 returns-clause-rest c = λ lines pieces await.
     let p = parted (goal.at.returns-clause-rest c).After-split_at in
     rw c.split_at.ensures.back (AreEvents-rest (line_of c.args.step) c.args.line pieces c.args.events.now _ await.steps p.within p.front p.back)
-
-pub returns-clause-marks : goal.returns-clause-marks
-returns-clause-marks c = c.loop-event.invariant.marks

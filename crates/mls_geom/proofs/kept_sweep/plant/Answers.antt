@@ -1,8 +1,8 @@
 -- Each piece reaches from one of the lines to another, and they ascend.
-use Rattle.std.proofs.Common.{refl, ◌≡◌, length, sym, ap, ◌∙◌, subst, arith}
+use Rattle.std.proofs.Common.{refl, sym, ap, ◌∙◌, subst, arith}
 use Rattle.mls_geom.proofs.Definitions.{Rect, IsBetweenLines, Piece}
 use Rattle.mls_geom.proofs.CutLines.{before_from_less}
-use Rattle.mls_geom.proofs.PlantedPieces.{AreFirstPlanted-none, AreFirstPlanted-push, ArePlanted-all, some_found}
+use Rattle.mls_geom.proofs.PlantedPieces.{AreFirstPlanted-push, some_found}
 use Rattle.mls_geom.proofs.EmptyTrees.{IsTree-added}
 use Rattle.mls_geom.proofs.kept_sweep.plant.Goals as goal
 
@@ -17,14 +17,6 @@ unwrap-end-requires c =
     let between = subst (λ (p : Piece). IsBetweenLines c.args.lines.now p.rect) (sym c.piece-item.is) (c.requires.between c.loop-piece.piece-index c.piece-item.result c.loop-piece-test.true) in
     let right = ap (λ (e : Rect). e.right) (c.edges.view_is ∙ c.area-edges.ensures.value) in
     some_found c.find_line-in-loop-piece.result _ c.find_line-in-loop-piece.ensures.none (rw right between.right)
-
-pub loop-piece-init : goal.loop-piece-init
-loop-piece-init c = record {
-  tree = c.in_ok-begin.ensures.tree;
-  planted = rw c.in_ok-begin.ensures.segments (AreFirstPlanted-none c.args.lines.now c.args.pieces.now);
-  slots = omega (arith, c.in_ok-begin.ensures.slots);
-  room = omega arith;
-}
 
 pub loop-piece-preserved : goal.loop-piece-preserved
 loop-piece-preserved c =
@@ -53,8 +45,3 @@ loop-piece-preserved c =
       slots = so_far.slots;
       room = omega (arith, so_far.room, c.push_reserved.ensures.capacity);
     }
-
-pub returns-clause-planted : goal.returns-clause-planted
-returns-clause-planted c =
-    let all : length c.args.pieces.now ≡ c.loop-piece.piece-index = omega arith in
-    ArePlanted-all c.args.lines.now c.args.pieces.now c.loop-piece.tree.segments.items (rw all c.loop-piece.invariant.planted)

@@ -1,18 +1,10 @@
 -- Each run's strip is ended, which all of them reach on.
-use Rattle.mls_geom.proofs.Common.{◌≡◌, ap, get_or, refl, ◌∙◌, arith, get_or_default}
+use Rattle.mls_geom.proofs.Common.{◌≡◌, ap, get_or, ◌∙◌, arith, get_or_default}
 use Rattle.mls_geom.proofs.Definitions.{extended, strip_of}
 use Rattle.mls_geom.proofs.KeptRuns.{bottom_below, runs_of-extended}
 use Rattle.mls_geom.proofs.RowChanges.{IsChanging-ended}
 use Rattle.mls_geom.proofs.row_change.end_runs.Goals as goal
 
-pub loop-index-init : goal.loop-index-init
-loop-index-init c = record { changing = λ picture top column next state. state; same_runs = refl; len = refl }
-
-pub index_mut-requires : goal.index_mut-requires
-index_mut-requires c =
-    let (picture, top, column, next, before) = c.requires.drawn in
-    let state = c.loop-index.invariant.changing picture top column next before in
-    omega (arith, state.known c.loop-index.index 0 (omega (arith, c.requires.within)), c.loop-index.strips.ok.0)
 
 pub extend_to-requires-clause-above : goal.extend_to-requires-clause-above
 extend_to-requires-clause-above c =
@@ -41,9 +33,3 @@ pub returns-clause-changing : goal.returns-clause-changing
 returns-clause-changing c = λ picture top column next before.
     let all : c.loop-index.index ≡ c.args.runs.end = omega (arith, c.requires.onward) in
     rw (← all) (c.loop-index.invariant.changing picture top column next before)
-
-pub returns-clause-same_runs : goal.returns-clause-same_runs
-returns-clause-same_runs c = c.loop-index.invariant.same_runs
-
-pub returns-clause-len : goal.returns-clause-len
-returns-clause-len c = c.loop-index.invariant.len

@@ -1,4 +1,4 @@
-use Rattle.std.proofs.Common.{◌≡◌, ℕ, ◌+◌, ◌++◌, List, length, ap, ◌∙◌, subst, arith}
+use Rattle.std.proofs.Common.{◌≡◌, ℕ, ◌+◌, ◌++◌, List, length, ap, subst, arith}
 use Rattle.mls_geom.proofs.Definitions.{AreCoveredStrips, AreUnorderedStrips, AreUntouched, HaveKinds, covered_count, laid, overlaid, IsRectangleIn, tile_count, AreLegal, world, Piece}
 use Rattle.mls_geom.proofs.CoveredCounts.{covered_strips_number, fresh_strips_number}
 use Rattle.mls_geom.proofs.ListLemmas.{All-append_right}
@@ -8,9 +8,6 @@ use Rattle.mls_geom.proofs.sweep.fresh_strips.Goals as goal
 
 abbrev IsLegal : Piece → Type 0
 IsLegal piece = IsRectangleIn world piece.rect
-
-pub invariant_of-scratch : goal.invariant_of-scratch
-invariant_of-scratch c = (c.find_strips.ensures.room ∙ c.scratch.invariant.0, c.scratch.invariant.1, c.scratch.invariant.2)
 
 -- what the strips number beside those that stay
 number :
@@ -22,13 +19,6 @@ number pieces kinds legal below kept touched over is strips untouched =
 
 pub returns-in_err-find_strips-clause-tile_count : goal.returns-in_err-find_strips-clause-tile_count
 returns-in_err-find_strips-clause-tile_count c = number c.args.pieces.now c.find_strips.ensures.kinds c.find_strips.ensures.legal
-
-pub invariant_of-scratch-2 : goal.invariant_of-scratch-2
-invariant_of-scratch-2 c = (
-  c.swap_strips.ensures.room ∙ c.find_strips.ensures.room ∙ c.scratch.invariant.0,
-  omega (arith, c.swap_strips.ensures.capacity, c.find_strips.ensures.room, c.scratch.invariant.0),
-  c.scratch.invariant.2,
-)
 
 pub returns-clause-count : goal.returns-clause-count
 returns-clause-count c =

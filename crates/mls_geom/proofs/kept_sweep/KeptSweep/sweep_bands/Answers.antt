@@ -6,7 +6,7 @@ use Rattle.mls_geom.proofs.BandLines.{IsBand-lines, IsLineOf-lines, first_line, 
 use Rattle.mls_geom.proofs.BandRows.{AreAlike-band, IsBand}
 use Rattle.mls_geom.proofs.CornerCounts.{covered_count_up_to_grows}
 use Rattle.mls_geom.proofs.EventSteps.{AreEvents-band, is_below-band, is_below-bottom}
-use Rattle.mls_geom.proofs.KeptBands.{awaits, gave_up}
+use Rattle.mls_geom.proofs.KeptBands.{awaits}
 use Rattle.mls_geom.proofs.PlantedPieces.{HaveChanges-planted, ShowsRow-planted}
 use Rattle.mls_geom.proofs.TopPieces.{HaveChangedTops-then}
 use Rattle.mls_geom.proofs.kept_sweep.KeptSweep.sweep_bands.Goals as goal
@@ -43,16 +43,6 @@ move_pieces-requires-in-loop-i c =
             (c.in_ok-to_begin.ensures.tree lines pieces starts),
       );
     }
-
-pub returns-in_err-to_begin-clause-too_many : goal.returns-in_err-to_begin-clause-too_many
-returns-in_err-to_begin-clause-too_many c = λ many.
-    let (e, is, why) = err_from_is_err_and c.from_residual.result c.from_residual.ensures.1 in
-    gave_up c.from_residual.result e _ is why many
-
-pub returns-in_err-to_end-clause-too_many : goal.returns-in_err-to_end-clause-too_many
-returns-in_err-to_end-clause-too_many c = λ many.
-    let (e, is, why) = err_from_is_err_and c.from_residual-in_err-to_end.result c.from_residual-in_err-to_end.ensures.1 in
-    gave_up c.from_residual-in_err-to_end.result e _ is why many
 
 -- the lines of this band
 line_is : (c : In_ok-to_end) → c.index-line.result.now ≡ get_or c.args.self.now.lines.items (c.loop-i.i - 1) 0

@@ -1,11 +1,9 @@
 -- The walk ends at the largest part of which it is known what its slots show.
-use Rattle.std.proofs.Common.{refl, ◌≡◌, length, ap, arith}
+use Rattle.std.proofs.Common.{◌≡◌, length, ap, arith}
 use Rattle.mls_geom.specs.Sweep.Trees.{kind_shown}
-use Rattle.mls_geom.proofs.TreeWalks.{HasWalkedTo-whole, HasWalkedTo-half, HasWalkedTo-bounds, HasWalkedTo-leaf, above-known, max-known, node-looked_up}
+use Rattle.mls_geom.proofs.TreeWalks.{HasWalkedTo-half, HasWalkedTo-bounds, HasWalkedTo-leaf, above-known, max-known, node-looked_up}
 use Rattle.mls_geom.proofs.tree.Tree.shown_from.Goals as goal
 
-pub loop-part-init : goal.loop-part-init
-loop-part-init c = HasWalkedTo-whole c.requires.tree c.requires.slot refl refl
 
 pub decided-requires : goal.decided-requires
 decided-requires c = omega (arith, above-known c.requires.tree c.loop-part.invariant, ap length c.deref.ensures.value)

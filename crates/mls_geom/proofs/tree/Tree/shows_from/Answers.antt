@@ -1,11 +1,9 @@
 -- The walk ends at the largest part of which it is known whether the piece may lie on top there.
-use Rattle.std.proofs.Common.{refl, ◌+◌, ◌<◌, arith, leb-false}
+use Rattle.std.proofs.Common.{◌+◌, ◌<◌, arith, leb-false}
 use Rattle.mls_geom.proofs.TreeTops.{IsRankOf-one}
-use Rattle.mls_geom.proofs.TreeWalks.{HasWalkedTo-whole, HasWalkedTo-half, HasWalkedTo-bounds, HasWalkedTo-leaf, node-looked_up}
+use Rattle.mls_geom.proofs.TreeWalks.{HasWalkedTo-half, HasWalkedTo-bounds, HasWalkedTo-leaf, node-looked_up}
 use Rattle.mls_geom.proofs.tree.Tree.shows_from.Goals as goal
 
-pub loop-part-init : goal.loop-part-init
-loop-part-init c = HasWalkedTo-whole c.requires.tree c.requires.slot refl refl
 
 pub loop-part-preserved : goal.loop-part-preserved
 loop-part-preserved c =
