@@ -233,13 +233,7 @@ IsChain-not_unlinked entries node e piece chain chained isnt =
 regrouped : (front : List ℕ) (piece : ℕ) (rest : List ℕ) → front ++ piece ∷ rest ≡ (front ++ piece ∷ []) ++ rest
 regrouped front piece rest = rw append_assoc refl
 
--- at first the front is empty
-pub IsSplitAt-start :
-    (ends : ℕ → ℕ) (piece : ℕ) (entries : List Entry) (node : ℕ) (head : Option ℕ) (chain : List ℕ) → IsChain entries node head chain
-    → IsSplitAt ends piece entries node head chain None
-IsSplitAt-start ends piece entries node head chain chained = record { front = []; rest = chain; whole = refl; stays = refl; down = refl; under = chained }
-
--- it takes in the next entry, whose piece lies over the one to link and ends before it
+-- the front takes in the next entry, whose piece lies over the one to link and ends before it
 pub IsSplitAt-more :
     (ends : ℕ → ℕ) (piece : ℕ) (entries : List Entry) (node : ℕ) (head : Option ℕ) (chain : List ℕ) (over : Option ℕ) (e : ℕ) → IsSplitAt ends piece entries node head chain over
     → under_of entries head over ≡ Some e → piece < (entry_at entries e).piece → ends (entry_at entries e).piece < ends piece
@@ -271,12 +265,6 @@ pub record IsOutlived (ends : ℕ → ℕ) (piece : ℕ) (entries : List Entry) 
   pub whole : chain ≡ front ++ rest
   pub same : outliving ends piece chain ≡ outliving ends piece rest
   pub under : IsChain entries node next rest
-
--- at first that is the whole chain
-pub IsOutlived-start :
-    (ends : ℕ → ℕ) (piece : ℕ) (entries : List Entry) (node : ℕ) (chain : List ℕ) (next : Option ℕ) → IsChain entries node next chain
-    → IsOutlived ends piece entries node chain next
-IsOutlived-start ends piece entries node chain next chained = record { front = []; rest = chain; whole = refl; same = refl; under = chained }
 
 -- it goes on past an entry whose piece ends no later
 pub IsOutlived-more :

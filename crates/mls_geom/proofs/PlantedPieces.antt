@@ -139,9 +139,6 @@ pub record AreFirstPlanted (lines : List ℕ) (pieces : List Piece) (n : ℕ) (s
   pub count : length segments ≡ n
   pub each : (i : ℕ) → i < n → HasPiece pieces (λ piece. IsPlanted lines piece (segment_at segments i)) i
 
-pub AreFirstPlanted-none : (lines : List ℕ) (pieces : List Piece) → AreFirstPlanted lines pieces 0 []
-AreFirstPlanted-none lines pieces = record { count = refl; each = λ i below. absurd (omega arith) }
-
 -- one piece more
 pub AreFirstPlanted-push :
     (lines : List ℕ) (pieces : List Piece) (n : ℕ) (segments : List Segment) (piece : Piece) (segment : Segment) → n < length pieces → piece ≡ get_or pieces n piece
@@ -197,7 +194,3 @@ IsNext-event Ends lines pieces segments line events reached k planted are parted
 pub some_found : (found : Option ℕ) (P : Type 0) → IfNone found (¬ P) → P → IsSome found
 some_found None P none held = absurd (none held)
 some_found (Some index) P none held = refl
-
--- the segments are all pieces
-pub ArePlanted-all : (lines : List ℕ) (pieces : List Piece) (segments : List Segment) → AreFirstPlanted lines pieces (length pieces) segments → ArePlanted lines pieces segments
-ArePlanted-all lines pieces segments all = record { count = all.count; each = all.each }
