@@ -24,25 +24,17 @@ positive_lt d some = grind (arith, nat_tests)
 -- ---- shifted
 -- n steps on from a square of the rectangle is one of the shifted rectangle
 pub shifted_in : (direction : Direction) (n : ℕ) (e : Rect) (x y : ℕ) → n ≤ x → n ≤ y → holds e x y ≡ true → has (shifted direction n e) (moved direction n (at x y)) ≡ true
-shifted_in Right n e x y left below here =
-    let lines = holds_between e x y here in between_holds (shifted Right n e) (x + n) y (omega arith) (omega arith) (omega arith) (omega arith)
-shifted_in Up n e x y left below here =
-    let lines = holds_between e x y here in between_holds (shifted Up n e) x (y + n) (omega arith) (omega arith) (omega arith) (omega arith)
-shifted_in Left n e x y left below here =
-    let lines = holds_between e x y here in between_holds (shifted Left n e) (x - n) y (omega arith) (omega arith) (omega arith) (omega arith)
-shifted_in Down n e x y left below here =
-    let lines = holds_between e x y here in between_holds (shifted Down n e) x (y - n) (omega arith) (omega arith) (omega arith) (omega arith)
+shifted_in Right n e x y left below here = grind (arith, nat_tests)
+shifted_in Up n e x y left below here = grind (arith, nat_tests)
+shifted_in Left n e x y left below here = grind (arith, nat_tests)
+shifted_in Down n e x y left below here = grind (arith, nat_tests)
 
 -- n steps back from a square of the shifted rectangle is one of the rectangle
 pub shifted_out : (direction : Direction) (n : ℕ) (e : Rect) (x y : ℕ) → holds (shifted direction n e) x y ≡ true → has e (moved (back direction) n (at x y)) ≡ true
-shifted_out Right n e x y here =
-    let lines = holds_between (shifted Right n e) x y here in between_holds e (x - n) y (omega arith) (omega arith) (omega arith) (omega arith)
-shifted_out Up n e x y here =
-    let lines = holds_between (shifted Up n e) x y here in between_holds e x (y - n) (omega arith) (omega arith) (omega arith) (omega arith)
-shifted_out Left n e x y here =
-    let lines = holds_between (shifted Left n e) x y here in between_holds e (x + n) y (omega arith) (omega arith) (omega arith) (omega arith)
-shifted_out Down n e x y here =
-    let lines = holds_between (shifted Down n e) x y here in between_holds e x (y + n) (omega arith) (omega arith) (omega arith) (omega arith)
+shifted_out Right n e x y here = grind (arith, nat_tests)
+shifted_out Up n e x y here = grind (arith, nat_tests)
+shifted_out Left n e x y here = grind (arith, nat_tests)
+shifted_out Down n e x y here = grind (arith, nat_tests)
 
 -- n steps on from a square of the rectangle shifted back is one of the rectangle
 pub shifted_back_out : (direction : Direction) (n : ℕ) (e : Rect) (x y : ℕ) → holds (shifted (back direction) n e) x y ≡ true → has e (moved direction n (at x y)) ≡ true
@@ -53,14 +45,10 @@ shifted_back_out Down n e x y here = shifted_out Up n e x y here
 
 -- a square that lies n steps on from one of the rectangle is one of the shifted rectangle
 pub in_shifted : (direction : Direction) (n : ℕ) (e : Rect) (x y : ℕ) → n ≤ x → n ≤ y → has e (moved (back direction) n (at x y)) ≡ true → holds (shifted direction n e) x y ≡ true
-in_shifted Right n e x y left below there =
-    let lines = holds_between e (x - n) y there in between_holds (shifted Right n e) x y (omega arith) (omega arith) (omega arith) (omega arith)
-in_shifted Up n e x y left below there =
-    let lines = holds_between e x (y - n) there in between_holds (shifted Up n e) x y (omega arith) (omega arith) (omega arith) (omega arith)
-in_shifted Left n e x y left below there =
-    let lines = holds_between e (x + n) y there in between_holds (shifted Left n e) x y (omega arith) (omega arith) (omega arith) (omega arith)
-in_shifted Down n e x y left below there =
-    let lines = holds_between e x (y + n) there in between_holds (shifted Down n e) x y (omega arith) (omega arith) (omega arith) (omega arith)
+in_shifted Right n e x y left below there = grind (arith, nat_tests)
+in_shifted Up n e x y left below there = grind (arith, nat_tests)
+in_shifted Left n e x y left below there = grind (arith, nat_tests)
+in_shifted Down n e x y left below there = grind (arith, nat_tests)
 
 -- a shift by one square lowers the lower lines by one at most
 pub shifted_low : (direction : Direction) (m : ℕ) (e : Rect) → m + 1 ≤ e.left → m + 1 ≤ e.bottom → (m ≤ (shifted direction 1 e).left) × (m ≤ (shifted direction 1 e).bottom)
@@ -79,14 +67,10 @@ moved_low Down m x y left below = (omega arith, omega arith)
 -- ---- deepened
 -- a square lies in the deepened rectangle where one of the rectangle is at most n steps back
 pub deepened_in : (direction : Direction) (n i : ℕ) (e : Rect) (x y : ℕ) → i ≤ n → has e (moved (back direction) i (at x y)) ≡ true → holds (deepened direction n e) x y ≡ true
-deepened_in Right n i e x y few there =
-    let lines = holds_between e (x - i) y there in between_holds (deepened Right n e) x y (omega arith) (omega arith) (omega arith) (omega arith)
-deepened_in Up n i e x y few there =
-    let lines = holds_between e x (y - i) there in between_holds (deepened Up n e) x y (omega arith) (omega arith) (omega arith) (omega arith)
-deepened_in Left n i e x y few there =
-    let lines = holds_between e (x + i) y there in between_holds (deepened Left n e) x y (omega arith) (omega arith) (omega arith) (omega arith)
-deepened_in Down n i e x y few there =
-    let lines = holds_between e x (y + i) there in between_holds (deepened Down n e) x y (omega arith) (omega arith) (omega arith) (omega arith)
+deepened_in Right n i e x y few there = grind (arith, nat_tests)
+deepened_in Up n i e x y few there = grind (arith, nat_tests)
+deepened_in Left n i e x y few there = grind (arith, nat_tests)
+deepened_in Down n i e x y few there = grind (arith, nat_tests)
 
 -- from each square of the deepened rectangle, at most n steps back is one of the rectangle, if it has any
 pub deepened_out :
