@@ -13,18 +13,11 @@ IsRectangleIn-through outer middle e sides inside = record {
   top_in = omega (arith, sides.top, inside.top_in);
 }
 
--- a rectangle that encloses one of an extent has it as a part
-pub IsRectangleIn-within : (outer extent e : Rect) → IsWithin outer e → IsRectangleIn extent e → IsRectangleIn outer e
-IsRectangleIn-within outer extent e sides inside = record {
-  left_in = sides.left;
-  wide = inside.wide;
-  right_in = sides.right;
-  bottom_in = sides.bottom;
-  tall = inside.tall;
-  top_in = sides.top;
-}
-
--- so a rectangle of an extent lies in itself
+-- a rectangle of an extent lies in itself
 pub IsRectangleIn-itself : (extent e : Rect) → IsRectangleIn extent e → IsRectangleIn e e
 IsRectangleIn-itself extent e inside =
-    IsRectangleIn-within e extent e (record { left = omega arith; bottom = omega arith; right = omega arith; top = omega arith }) inside
+    record { left_in = omega arith; wide = inside.wide; right_in = omega arith; bottom_in = omega arith; tall = inside.tall; top_in = omega arith }
+
+-- so a rectangle that encloses one of an extent has it as a part
+pub IsRectangleIn-within : (outer extent e : Rect) → IsWithin outer e → IsRectangleIn extent e → IsRectangleIn outer e
+IsRectangleIn-within outer extent e sides inside = IsRectangleIn-through outer e e sides (IsRectangleIn-itself extent e inside)

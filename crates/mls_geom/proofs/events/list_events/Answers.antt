@@ -4,7 +4,6 @@ use Rattle.mls_geom.proofs.Definitions.{line_of, world}
 use Rattle.mls_geom.proofs.EventLists.{AllPairs-before, AreEvents-sorted, AreListed-push, is_before}
 use Rattle.mls_geom.proofs.events.list_events.Goals as goal
 
-
 pub loop-i-preserved : goal.loop-i-preserved
 loop-i-preserved c =
     let piece = c.index-pieces-i in

@@ -4,7 +4,6 @@ use Rattle.mls_geom.proofs.Definitions.{HaveChangedTops, with_piece, Segment}
 use Rattle.mls_geom.proofs.TopPieces.{HaveChangedTops-with, HaveChangedTops-without}
 use Rattle.mls_geom.proofs.kept_sweep.move_piece.Goals as goal
 
-
 pub returns-in_ok-change-in-Begins-clause-tops : goal.returns-in_ok-change-in-Begins-clause-tops
 returns-in_ok-change-in-Begins-clause-tops c = rw c.in-Begins.is (on_ok_weaker c.mark.result
     (λ hidden present tree next.

@@ -5,7 +5,6 @@ use Rattle.mls_geom.proofs.KeptRuns.{bottom_below, runs_of-extended}
 use Rattle.mls_geom.proofs.RowChanges.{IsChanging-ended}
 use Rattle.mls_geom.proofs.row_change.end_runs.Goals as goal
 
-
 pub extend_to-requires-clause-above : goal.extend_to-requires-clause-above
 extend_to-requires-clause-above c =
     let (picture, top, column, next, before) = c.requires.drawn in

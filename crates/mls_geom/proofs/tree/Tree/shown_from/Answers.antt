@@ -4,7 +4,6 @@ use Rattle.mls_geom.specs.Sweep.Trees.{kind_shown}
 use Rattle.mls_geom.proofs.TreeWalks.{HasWalkedTo-half, HasWalkedTo-bounds, HasWalkedTo-leaf, above-known, max-known, node-looked_up}
 use Rattle.mls_geom.proofs.tree.Tree.shown_from.Goals as goal
 
-
 pub decided-requires : goal.decided-requires
 decided-requires c = omega (arith, above-known c.requires.tree c.loop-part.invariant, ap length c.deref.ensures.value)
 

@@ -4,7 +4,6 @@ use Rattle.mls_geom.proofs.TreeTops.{IsRankOf-one}
 use Rattle.mls_geom.proofs.TreeWalks.{HasWalkedTo-half, HasWalkedTo-bounds, HasWalkedTo-leaf, node-looked_up}
 use Rattle.mls_geom.proofs.tree.Tree.shows_from.Goals as goal
 
-
 pub loop-part-preserved : goal.loop-part-preserved
 loop-part-preserved c =
     let walk = c.loop-part.invariant in
