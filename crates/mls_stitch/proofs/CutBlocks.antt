@@ -1,6 +1,7 @@
 -- Blocks cut in two by a line, and two blocks as one: the parts have exactly the squares of the whole.
-use Rattle.std.proofs.Common.{◌≡◌, ◌≢◌, ◌⊎◌, ℕ, ◌<◌, ◌≤◌, true, IsTrue, List, [], ◌∷◌, Option, Some, IsSome, All, AllPairs, Any, inl, inr, refl, sym, ap, ◌∙◌, subst, arith}
+use Rattle.std.proofs.Common.{◌≡◌, ◌≢◌, ◌⊎◌, ℕ, ◌<◌, true, IsTrue, List, [], ◌∷◌, Option, Some, IsSome, All, AllPairs, Any, inl, inr, refl, sym, ap, ◌∙◌, subst, arith}
 use Rattle.std.proofs.lemmas.Bool.{cases_lt}
+use Rattle.std.proofs.lemmas.Bool.Decides.{nat_tests}
 use Rattle.std.proofs.lemmas.List.Elements.{All-cons, All-nil}
 use Rattle.std.proofs.lemmas.List.Kept.{AllPairs-cons}
 use Rattle.std.proofs.lemmas.Option.{same_Some}
@@ -28,134 +29,43 @@ pub record AreParts (whole first second : Piece) : Type 0 where
   pub first_kind : first.kind ≡ whole.kind
   pub second_kind : second.kind ≡ whole.kind
 
--- two pieces on either side of a line have no square in common
-apart_x : (a b : Piece) → a.rect.right ≤ b.rect.left → AreDisjoint a b
-apart_x a b before at in_a in_b =
-    let lines = holds_between a.rect at.x at.y in_a in
-    let lines' = holds_between b.rect at.x at.y in_b in
-    omega (arith, lines.1, lines'.0, before)
-
-apart_y : (a b : Piece) → a.rect.top ≤ b.rect.bottom → AreDisjoint a b
-apart_y a b before at in_a in_b =
-    let lines = holds_between a.rect at.x at.y in_a in
-    let lines' = holds_between b.rect at.x at.y in_b in
-    omega (arith, lines.3, lines'.2, before)
-
--- a line through a block cuts it into two parts
-parts_x : (block : Piece) (x : ℕ) → block.rect.left < x → x < block.rect.right → AreParts block (left_part x block) (right_part x block)
-parts_x block x after before = record {
-  in_first = λ at inside.
-      let lines = holds_between (left_part x block).rect at.x at.y inside in
-      between_holds block.rect at.x at.y lines.0 (omega (arith, lines.1, before)) lines.2 lines.3;
-  in_second = λ at inside.
-      let lines = holds_between (right_part x block).rect at.x at.y inside in
-      between_holds block.rect at.x at.y (omega (arith, lines.0, after)) lines.1 lines.2 lines.3;
-  either = λ at inside.
-      let lines = holds_between block.rect at.x at.y inside in
-      elim (cases_lt at.x x) [
-        | inl below ↦ inl (between_holds (left_part x block).rect at.x at.y lines.0 below lines.2 lines.3)
-        | inr above ↦ inr (between_holds (right_part x block).rect at.x at.y above lines.1 lines.2 lines.3)
-      ];
-  apart = apart_x (left_part x block) (right_part x block) (omega arith);
-  first_kind = refl;
-  second_kind = refl;
-}
-
-parts_y : (block : Piece) (y : ℕ) → block.rect.bottom < y → y < block.rect.top → AreParts block (lower_of y block) (upper_of y block)
-parts_y block y after before = record {
-  in_first = λ at inside.
-      let lines = holds_between (lower_of y block).rect at.x at.y inside in
-      between_holds block.rect at.x at.y lines.0 lines.1 lines.2 (omega (arith, lines.3, before));
-  in_second = λ at inside.
-      let lines = holds_between (upper_of y block).rect at.x at.y inside in
-      between_holds block.rect at.x at.y lines.0 lines.1 (omega (arith, lines.2, after)) lines.3;
-  either = λ at inside.
-      let lines = holds_between block.rect at.x at.y inside in
-      elim (cases_lt at.y y) [
-        | inl below ↦ inl (between_holds (lower_of y block).rect at.x at.y lines.0 lines.1 lines.2 below)
-        | inr above ↦ inr (between_holds (upper_of y block).rect at.x at.y lines.0 lines.1 above lines.3)
-      ];
-  apart = apart_y (lower_of y block) (upper_of y block) (omega arith);
-  first_kind = refl;
-  second_kind = refl;
-}
-
--- which are rectangles of the world where the block is one
-legal-parts_x :
-    (block : Piece) (x : ℕ) → IsRectangleIn world block.rect → block.rect.left < x → x < block.rect.right
-    → IsRectangleIn world (left_part x block).rect × IsRectangleIn world (right_part x block).rect
-legal-parts_x block x legal after before = (
-  record { left_in = legal.left_in; wide = after; right_in = omega (arith, legal.right_in, before); bottom_in = legal.bottom_in; tall = legal.tall; top_in = legal.top_in },
-  record { left_in = omega (arith, legal.left_in, after); wide = before; right_in = legal.right_in; bottom_in = legal.bottom_in; tall = legal.tall; top_in = legal.top_in },
-)
-
-legal-parts_y :
-    (block : Piece) (y : ℕ) → IsRectangleIn world block.rect → block.rect.bottom < y → y < block.rect.top
-    → IsRectangleIn world (lower_of y block).rect × IsRectangleIn world (upper_of y block).rect
-legal-parts_y block y legal after before = (
-  record { left_in = legal.left_in; wide = legal.wide; right_in = legal.right_in; bottom_in = legal.bottom_in; tall = after; top_in = omega (arith, legal.top_in, before) },
-  record { left_in = legal.left_in; wide = legal.wide; right_in = legal.right_in; bottom_in = omega (arith, legal.bottom_in, after); tall = before; top_in = legal.top_in },
-)
-
 -- two blocks that share a whole side are the parts of both together
-parts-joined_x : (a b : Piece) → IsRectangleIn world a.rect → IsRectangleIn world b.rect → JoinInX a b → AreParts (joined_x a b) a b
-parts-joined_x a b legal_a legal_b join = record {
-  in_first = λ at inside.
-      let lines = holds_between a.rect at.x at.y inside in
-      between_holds (joined_x a b).rect at.x at.y lines.0 (omega (arith, lines.1, join.meet, legal_b.wide)) lines.2 lines.3;
-  in_second = λ at inside.
-      let lines = holds_between b.rect at.x at.y inside in
-      between_holds (joined_x a b).rect at.x at.y (omega (arith, lines.0, join.meet, legal_a.wide)) lines.1 (omega (arith, lines.2, join.bottoms)) (omega (arith, lines.3, join.tops));
+parts-joined_x : (a b : Piece) → a.rect.left < a.rect.right → b.rect.left < b.rect.right → JoinInX a b → AreParts (joined_x a b) a b
+parts-joined_x a b wide_a wide_b join = record {
+  in_first = λ at inside. grind (arith, nat_tests);
+  in_second = λ at inside. grind (arith, nat_tests);
   either = λ at inside.
       let lines = holds_between (joined_x a b).rect at.x at.y inside in
       elim (cases_lt at.x a.rect.right) [
         | inl below ↦ inl (between_holds a.rect at.x at.y lines.0 below lines.2 lines.3)
         | inr above ↦ inr (between_holds b.rect at.x at.y (omega (arith, above, join.meet)) lines.1 (omega (arith, lines.2, join.bottoms)) (omega (arith, lines.3, join.tops)))
       ];
-  apart = apart_x a b (omega (arith, join.meet));
+  apart = λ at in_a in_b. omega (arith, (holds_between a.rect at.x at.y in_a).1, (holds_between b.rect at.x at.y in_b).0, join.meet);
   first_kind = refl;
   second_kind = join.kinds;
 }
 
-parts-joined_y : (a b : Piece) → IsRectangleIn world a.rect → IsRectangleIn world b.rect → JoinInY a b → AreParts (joined_y a b) a b
-parts-joined_y a b legal_a legal_b join = record {
-  in_first = λ at inside.
-      let lines = holds_between a.rect at.x at.y inside in
-      between_holds (joined_y a b).rect at.x at.y lines.0 lines.1 lines.2 (omega (arith, lines.3, join.meet, legal_b.tall));
-  in_second = λ at inside.
-      let lines = holds_between b.rect at.x at.y inside in
-      between_holds (joined_y a b).rect at.x at.y (omega (arith, lines.0, join.lefts)) (omega (arith, lines.1, join.rights)) (omega (arith, lines.2, join.meet, legal_a.tall)) lines.3;
+parts-joined_y : (a b : Piece) → a.rect.bottom < a.rect.top → b.rect.bottom < b.rect.top → JoinInY a b → AreParts (joined_y a b) a b
+parts-joined_y a b tall_a tall_b join = record {
+  in_first = λ at inside. grind (arith, nat_tests);
+  in_second = λ at inside. grind (arith, nat_tests);
   either = λ at inside.
       let lines = holds_between (joined_y a b).rect at.x at.y inside in
       elim (cases_lt at.y a.rect.top) [
         | inl below ↦ inl (between_holds a.rect at.x at.y lines.0 lines.1 lines.2 below)
         | inr above ↦ inr (between_holds b.rect at.x at.y (omega (arith, lines.0, join.lefts)) (omega (arith, lines.1, join.rights)) (omega (arith, above, join.meet)) lines.3)
       ];
-  apart = apart_y a b (omega (arith, join.meet));
+  apart = λ at in_a in_b. omega (arith, (holds_between a.rect at.x at.y in_a).3, (holds_between b.rect at.x at.y in_b).2, join.meet);
   first_kind = refl;
   second_kind = join.kinds;
 }
 
 -- which is a rectangle of the world where they are
 pub legal-joined_x : (a b : Piece) → IsRectangleIn world a.rect → IsRectangleIn world b.rect → JoinInX a b → IsRectangleIn world (joined_x a b).rect
-legal-joined_x a b legal_a legal_b join = record {
-  left_in = legal_a.left_in;
-  wide = omega (arith, legal_a.wide, legal_b.wide, join.meet);
-  right_in = legal_b.right_in;
-  bottom_in = legal_a.bottom_in;
-  tall = legal_a.tall;
-  top_in = legal_a.top_in;
-}
+legal-joined_x a b legal_a legal_b join = record { left_in = legal_a.left_in; wide = omega (arith, legal_a.wide, legal_b.wide, join.meet); right_in = legal_b.right_in; bottom_in = legal_a.bottom_in; tall = legal_a.tall; top_in = legal_a.top_in }
 
 pub legal-joined_y : (a b : Piece) → IsRectangleIn world a.rect → IsRectangleIn world b.rect → JoinInY a b → IsRectangleIn world (joined_y a b).rect
-legal-joined_y a b legal_a legal_b join = record {
-  tall = omega (arith, legal_a.tall, legal_b.tall, join.meet);
-  top_in = legal_b.top_in;
-  left_in = legal_a.left_in;
-  wide = legal_a.wide;
-  right_in = legal_a.right_in;
-  bottom_in = legal_a.bottom_in;
-}
+legal-joined_y a b legal_a legal_b join = record { left_in = legal_a.left_in; wide = legal_a.wide; right_in = legal_a.right_in; bottom_in = legal_a.bottom_in; tall = omega (arith, legal_a.tall, legal_b.tall, join.meet); top_in = legal_b.top_in }
 
 -- lists of one and of two
 All-one : {X : Type 0} (P : X → Type 0) (x : X) → P x → All P (x ∷ [])
@@ -244,20 +154,27 @@ TakePlace-whole blocks a b whole first second is_first is_second differ parts le
   );
 }
 
--- so it is along either axis, whatever lines a block's parts have
+-- so it is along either axis: a block that a line cuts is its two parts joined
 pub parts_along : (axis : Axis) (block : Piece) (at : ℕ) → IsCutAt axis at block → AreParts block (first_part axis at block) (second_part axis at block)
-parts_along X block x (after, before) = parts_x block x after before
-parts_along Y block y (after, before) = parts_y block y after before
+parts_along X block x (after, before) = parts-joined_x (left_part x block) (right_part x block) after before (record { meet = refl; bottoms = refl; tops = refl; kinds = refl })
+parts_along Y block y (after, before) = parts-joined_y (lower_of y block) (upper_of y block) after before (record { meet = refl; lefts = refl; rights = refl; kinds = refl })
 
+-- which are rectangles of the world where the block is one
 legal-parts :
     (axis : Axis) (block : Piece) (at : ℕ) → IsRectangleIn world block.rect → IsCutAt axis at block
     → IsRectangleIn world (first_part axis at block).rect × IsRectangleIn world (second_part axis at block).rect
-legal-parts X block x legal (after, before) = legal-parts_x block x legal after before
-legal-parts Y block y legal (after, before) = legal-parts_y block y legal after before
+legal-parts X block x legal (after, before) = (
+  record { left_in = legal.left_in; wide = after; right_in = omega (arith, legal.right_in, before); bottom_in = legal.bottom_in; tall = legal.tall; top_in = legal.top_in },
+  record { left_in = omega (arith, legal.left_in, after); wide = before; right_in = legal.right_in; bottom_in = legal.bottom_in; tall = legal.tall; top_in = legal.top_in },
+)
+legal-parts Y block y legal (after, before) = (
+  record { left_in = legal.left_in; wide = legal.wide; right_in = legal.right_in; bottom_in = legal.bottom_in; tall = after; top_in = omega (arith, legal.top_in, before) },
+  record { left_in = legal.left_in; wide = legal.wide; right_in = legal.right_in; bottom_in = omega (arith, legal.bottom_in, after); tall = before; top_in = legal.top_in },
+)
 
 parts-joined : (axis : Axis) (a b : Piece) → IsRectangleIn world a.rect → IsRectangleIn world b.rect → JoinAlong axis a b → AreParts (joined_along axis a b) a b
-parts-joined X = parts-joined_x
-parts-joined Y = parts-joined_y
+parts-joined X a b legal_a legal_b join = parts-joined_x a b legal_a.wide legal_b.wide join
+parts-joined Y a b legal_a legal_b join = parts-joined_y a b legal_a.tall legal_b.tall join
 
 legal-joined : (axis : Axis) (a b : Piece) → IsRectangleIn world a.rect → IsRectangleIn world b.rect → JoinAlong axis a b → IsRectangleIn world (joined_along axis a b).rect
 legal-joined X = legal-joined_x

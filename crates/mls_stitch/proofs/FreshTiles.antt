@@ -2,7 +2,7 @@
 use Rattle.std.proofs.Common.{◌≡◌, ◌≢◌, ◌⊎◌, ℕ, zero, suc, true, false, ◌==◌, List, [], ◌∷◌, map, Option, Some, None, inl, inr, refl, sym, ap, ◌∙◌, subst, subst₂, le_of_suc-le-suc, eq-eqb, eqb-true, arith}
 use Rattle.std.specs.List.{AllPairs, Contains, list_any}
 use Rattle.std.specs.Option.{IfSome}
-use Rattle.std.proofs.lemmas.Bool.{cases_Bool, cond-false, cond-true, eqb-false, false_from_ne_true}
+use Rattle.std.proofs.lemmas.Bool.{cases_Bool, cond-false, cond-true, false_from_ne_true}
 use Rattle.std.proofs.lemmas.List.{get_or_default, get_or-map, length-map}
 use Rattle.std.proofs.lemmas.List.Elements.{All-contains}
 use Rattle.std.proofs.lemmas.List.Folds.{Any-from_list_any, list_any-from_Any}
@@ -93,17 +93,6 @@ keys_of-listed laid entry found = Contains-map (λ (e : LaidTile). e.id) laid en
 
 pub entry-keys_of : (laid : List LaidTile) (key : ℕ) → Contains (keys_of laid) key → (entry : LaidTile) × Contains laid entry × (entry.id ≡ key)
 entry-keys_of laid key found = Contains-from_map (λ (e : LaidTile). e.id) laid key found
-
--- a listed key has a piece, and no other key has one
-pub fresh_at-there : (laid : List LaidTile) (key : ℕ) → Contains (keys_of laid) key → (piece : Piece) × (fresh_at laid key ≡ Some piece)
-fresh_at-there [] key found = absurd (nothing_in_nil key found)
-fresh_at-there (first ∷ laid) key found = elim (cases_Bool (first.id == key)) [
-  | inl same ↦ (first.piece, cond-true _ (Some first.piece) (fresh_at laid key) same)
-  | inr differ ↦
-      let later = Contains_rest first.id key (keys_of laid) (eqb-false first.id key differ) found in
-      let (piece, is) = fresh_at-there laid key later in
-      (piece, cond-false _ (Some first.piece) (fresh_at laid key) differ ∙ is)
-]
 
 pub fresh_at-absent : (laid : List LaidTile) (key : ℕ) → ¬ (Contains (keys_of laid) key) → fresh_at laid key ≡ None
 fresh_at-absent laid key absent = elim (cases_Option (fresh_at laid key)) [

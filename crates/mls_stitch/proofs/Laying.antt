@@ -264,10 +264,6 @@ Lays-untouched a b =
 pub Lays-refl : (tiles : List (ℕ × Tile)) (before : List LaidTile) → Lays tiles tiles [] [] before before
 Lays-refl tiles before = record { laid = []; listed = sym (append-nil before); pieces = refl; ways = GiveWay-refl tiles; again = λ i within. absurd (omega (arith, within)) }
 
--- the touched tiles that nothing takes the place of
-pub Lays-gone : {old new : List (ℕ × Tile)} {touched : List ℕ} (before : List LaidTile) → GiveWay old new touched [] → Lays old new touched [] before before
-Lays-gone before ways = record { laid = []; listed = sym (append-nil before); pieces = refl; ways = ways; again = λ i within within'. absurd (omega (arith, within')) }
-
 pub Lays-count : {old new : List (ℕ × Tile)} {touched : List ℕ} {fresh : List Piece} {before after : List LaidTile} → Lays old new touched fresh before after → length new + length touched ≡ length old + length fresh
 Lays-count a = omega (arith, a.ways.count, length_keys a.laid _ a.pieces, length-map a.laid (λ (e : LaidTile). e.id))
 

@@ -51,9 +51,6 @@ module _
         let (d, fails) = none some in
         absurd (false≢true (sym fails ∙ rw (get_or_default entries (count - 1) e d (omega (arith, parted.bound, some))) at passes))
 
-    pub ArePartlyBack-start : {tiles : List (ℕ × Tile)} → AreInPlace tiles blocks → ArePartlyBack tiles tiles blocks stitch entries count count
-    ArePartlyBack-start place = record { keeps = KeepStitches-refl place; done = λ k d low high. absurd (omega (arith, low, high)) }
-
     -- one more is set
     pub ArePartlyBack-set :
         {old now new : List (ℕ × Tile)} {rest : ℕ} {was : Tile} (back : Stitch) (d : LaidTile) → back ≡ back_of stitch → 0 < rest → rest ≤ count
@@ -108,14 +105,6 @@ pub record ArePartlySewn (old new : List (ℕ × Tile)) (blocks : ℕ → Option
   pub onward : AllWithin (λ tile. All (λ other. IsLed new blocks stitch tile other) fresh) tiles 0 index
   pub back : AllWithin (λ tile. All (λ other. IsLed new blocks (back_of stitch) other tile) fresh) tiles 0 index
 
-pub ArePartlySewn-start :
-    {now : List (ℕ × Tile)} {blocks : ℕ → Option Piece} {stitch : Stitch} {tiles fresh : List LaidTile} → AreInPlace now blocks → ArePartlySewn now now blocks stitch tiles fresh 0
-ArePartlySewn-start place = record {
-  keeps = KeepStitches-refl place;
-  onward = λ k d low high. absurd (omega (arith, high));
-  back = λ k d low high. absurd (omega (arith, high));
-}
-
 pub ArePartlySewn-more :
     {old now new : List (ℕ × Tile)} {blocks : ℕ → Option Piece} {stitch : Stitch} {tiles fresh : List LaidTile} {index : ℕ} (tile : LaidTile)
     → ArePartlySewn old now blocks stitch tiles fresh index → index < length tiles → tile ≡ get_or tiles index tile → IsSewn now new blocks stitch tile fresh
@@ -137,15 +126,6 @@ AreSewn-end part = record {
   keeps = part.keeps;
   onward = λ k d within. part.onward k d (omega arith) within;
   back = λ i e inside k d within. part.back k d (omega arith) within i e inside;
-}
-
--- no tiles are sewn to any
-pub AreSewn-none :
-    {now : List (ℕ × Tile)} {blocks : ℕ → Option Piece} {stitch : Stitch} {tiles fresh : List LaidTile} → AreInPlace now blocks → length tiles ≡ 0 → AreSewn now now blocks stitch tiles fresh
-AreSewn-none place none = record {
-  keeps = KeepStitches-refl place;
-  onward = λ k d within. absurd (omega (arith, within, none));
-  back = λ i e inside k d within. absurd (omega (arith, within, none));
 }
 
 -- tiles around and fresh ones lead to each other by this stitch

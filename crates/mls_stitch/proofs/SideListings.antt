@@ -9,22 +9,13 @@ use Rattle.mls_geom.specs.World.{world}
 use Rattle.mls_geom.specs.declared.piece.Piece.{Piece}
 use Rattle.mls_geom.proofs.Holds.{holds_between, between_holds}
 use Rattle.mls_stitch.specs.Areas.{IsFound}
-use Rattle.mls_stitch.specs.Enumerations.{IsListedTo, IsSideListedTo}
+use Rattle.mls_stitch.specs.Enumerations.{IsSideListedTo}
 use Rattle.mls_stitch.specs.Tilings.{AreBlocks, IsPlane, block_at}
 use Rattle.mls_stitch.specs.Walks.{IsLaidAt}
 use Rattle.mls_stitch.specs.declared.laid_tile.LaidTile.{LaidTile}
 use Rattle.mls_tilepool.specs.declared.tile.Tile.{Tile}
 use Rattle.mls_stitch.proofs.ListedTiles.{length-le-AreLaid}
-use Rattle.mls_stitch.proofs.Listings.{any_push, found_with, first_row_found, same_tile}
-
-pub side_none : (blocks : ℕ → Option Piece) (area : Rect) → IsSideListedTo blocks area [] area.bottom
-side_none blocks area = record {
-  each = λ k d within. absurd (omega arith);
-  once = λ i j d before within. absurd (omega arith);
-  on_side = λ y above below. absurd (omega (arith, above, below));
-  at_side = λ k d within. absurd (omega arith);
-  below = λ k d within. absurd (omega arith);
-}
+use Rattle.mls_stitch.proofs.Listings.{any_push, found_with, same_tile}
 
 module _ (blocks : ℕ → Option Piece) (area : Rect) (list : List LaidTile) (line : ℕ) (tiling : AreBlocks blocks) (inside : IsRectangleIn world area) (listed : IsSideListedTo blocks area list line) where
   -- a tile at the line is none of those below it
@@ -52,19 +43,6 @@ module _ (blocks : ℕ → Option Piece) (area : Rect) (list : List LaidTile) (l
         at_side = All-push (λ t. t.piece.rect.left ≤ area.left) list tile listed.at_side lines.0;
         below = All-push (λ t. t.piece.rect.top ≤ tile.piece.rect.top) list tile (λ k d within. omega (arith, listed.below k d within, lines.3)) (omega arith);
       }
-
-  -- the side is listed once the line reaches the area's top
-  pub side_whole : area.top ≤ line → IsListedTo blocks area list 0 world.top
-  side_whole reaches = record {
-    each = listed.each;
-    once = listed.once;
-    on_side = λ y above below. listed.on_side y above (omega (arith, below, reaches));
-    listed = λ k d within. inl (listed.at_side k d within);
-    reached = λ tile found beyond reached. elim reached.passed [
-      | inl before ↦ absurd (omega (arith, before))
-      | inr (at, above) ↦ absurd (omega (arith, above, (first_row_found blocks area tiling inside tile found).3, inside.top_in))
-    ];
-  }
 
 -- there is room for the next tile
 pub side_fits :

@@ -29,10 +29,6 @@ beyond Bl rect = record { x = rect.left - 1; y = rect.bottom }
 beyond Tr rect = record { x = rect.right; y = rect.top - 1 }
 beyond Rt rect = record { x = rect.right - 1; y = rect.top }
 
--- the stitch of a tile over this rectangle leads into the world
-abbrev pub LeadsInside : Stitch → Rect → Type 0
-LeadsInside stitch rect = IsTrue (holds world (beyond stitch rect).x (beyond stitch rect).y)
-
 -- the block under the key has the square
 abbrev pub HoldsAt : (ℕ → Option Piece) → ℕ → Point → Type 0
 HoldsAt blocks key at = IsSomeAnd (blocks key) (λ block. IsTrue (holds block.rect at.x at.y))

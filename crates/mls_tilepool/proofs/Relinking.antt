@@ -57,10 +57,6 @@ IsChain-relinked old new owner previous other link (key ∷ rest) relinks chain 
       IsChain-same old new owner (Some key) place.next rest (λ k inside. ap (option_map links_of) (kept k inside)) chain.6,
     )
 
--- the keys that are left
-pub without-first : (gone : ℕ) (rest : List ℕ) → without gone (gone ∷ rest) ≡ rest
-without-first gone rest = cond-true _ _ _ (eq-eqb gone gone refl)
-
 pub without-later : (gone key : ℕ) (rest : List ℕ) → key ≢ gone → without gone (key ∷ rest) ≡ key ∷ without gone rest
 without-later gone key rest differs = cond-false _ _ _ (ne_eqb key gone differs)
 

@@ -1,5 +1,5 @@
 -- Lists of slots, each with a value or none: what follows where two of them agree at each key, or at each key but one.
-use Rattle.std.proofs.Common.{◌≡◌, ◌≢◌, ℕ, zero, suc, ◌+◌, ◌≤◌, List, [], ◌∷◌, map, get_or, Option, Some, None, refl, sym, ◌∙◌, arith}
+use Rattle.std.proofs.Common.{◌≡◌, ◌≢◌, ℕ, zero, suc, ◌+◌, ◌≤◌, List, [], ◌∷◌, get_or, Option, Some, None, refl, sym, ◌∙◌, arith}
 use Rattle.std.specs.List.{sum_by}
 use Rattle.std.proofs.lemmas.List.Sums.{sum_by-cons}
 use Rattle.slab.specs.Slab.{entries_from}
@@ -54,11 +54,6 @@ sum_by-gap f g (slot ∷ rest) zero f_none g_none within =
     omega (arith, sum_by-cons f slot rest, sum_by-cons g slot rest, sum_by-le f g rest (λ key. within (suc key)))
 sum_by-gap f g (slot ∷ rest) (suc key) f_none g_none within =
     omega (arith, sum_by-cons f slot rest, sum_by-cons g slot rest, within 0, sum_by-gap f g rest key f_none g_none (λ other. within (suc other)))
-
--- a sum over mapped slots
-pub sum_by-map : {X Y : Type 0} (f : Y → ℕ) (g : X → Y) (xs : List X) → sum_by f (map g xs) ≡ sum_by (λ x. f (g x)) xs
-sum_by-map f g [] = refl
-sum_by-map f g (x ∷ xs) = omega (arith, sum_by-cons f (g x) (map g xs), sum_by-cons (λ x. f (g x)) x xs, sum_by-map f g xs)
 
 -- slots that are all empty have no entries
 entries_from-empty : {X : Type 0} (first : ℕ) (slots : List (Option X)) → ((key : ℕ) → get_or slots key None ≡ None) → entries_from first slots ≡ []

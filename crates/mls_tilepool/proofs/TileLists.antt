@@ -1,6 +1,6 @@
 -- Lists of tiles with their keys, and what stands under a key.
 use Rattle.std.proofs.Common.{◌≡◌, ℕ, zero, suc, ◌+◌, ◌<◌, ◌≤◌, eqb, List, [], ◌∷◌, map, length, get_or, Option, Some, None, refl, sym, ap, ◌∙◌, inl, inr, zero-add, arith}
-use Rattle.std.specs.List.{All, AllPairs, Contains}
+use Rattle.std.specs.List.{AllPairs, Contains}
 use Rattle.std.proofs.lemmas.Bool.{cases_eq, cond-true, cond-false, eq-eqb, ne_eqb}
 use Rattle.std.proofs.Math.ListN.{get_or-map}
 use Rattle.slab.specs.Slab.{entries_from}
@@ -38,17 +38,6 @@ entries_from-ascend first (Some tile ∷ rest) zero (suc j) d before within = om
 entries_from-ascend first (Some tile ∷ rest) (suc i) (suc j) d before within =
     entries_from-ascend (first + 1) rest i j d (omega (arith, before)) (omega (arith, within))
 
--- each entry is found under its key
-pub entries_from-found : (first : ℕ) (slots : List (Option Tile)) → All (λ e. tile_in (entries_from first slots) e.0 ≡ Some e.1) (entries_from first slots)
-entries_from-found first [] i d within = absurd (omega (arith, within))
-entries_from-found first (None ∷ rest) i d within = entries_from-found (first + 1) rest i d within
-entries_from-found first (Some tile ∷ rest) zero d within = cond-true _ _ _ (eq-eqb first first refl)
-entries_from-found first (Some tile ∷ rest) (suc i) d within =
-    let inner : i < length (entries_from (first + 1) rest) = omega (arith, within) in
-    let past = entries_from-past (first + 1) rest i d inner in
-    cond-false _ _ _ (ne_eqb first (get_or (entries_from (first + 1) rest) i d).0 (λ same. absurd (omega (arith, past, same))))
-    ∙ entries_from-found (first + 1) rest i d inner
-
 -- nothing stands under a key before the first
 tile_in-before : (first key : ℕ) (slots : List (Option Tile)) → key < first → tile_in (entries_from first slots) key ≡ None
 tile_in-before first key [] before = refl
@@ -80,11 +69,6 @@ tile_at-place pool owner key =
 pub tiles_of-ascend : (pool : Pool) (owner : ℕ) → AllPairs (λ a b. a.0 < b.0) (tiles_of pool owner)
 unfolding tiles_of
 tiles_of-ascend pool owner = entries_from-ascend 0 (map (owned owner) pool.places)
-
--- each of an owner's tiles is found under its key
-pub tiles_of-found : (pool : Pool) (owner : ℕ) → All (λ e. tile_at pool owner e.0 ≡ Some e.1) (tiles_of pool owner)
-unfolding tiles_of
-tiles_of-found pool owner = entries_from-found 0 (map (owned owner) pool.places)
 
 -- what is owned is under this owner
 owned-owner : (owner : ℕ) (slot : Option Held) (tile : Tile) → owned owner slot ≡ Some tile → (held : Held) × (slot ≡ Some held) × (held.owner ≡ owner)
