@@ -1,24 +1,8 @@
 -- The tiles round the touched ones, gathered from one search after another, or from one round all.
 use Rattle.std.proofs.Common.{◌≡◌, ◌⊎◌, ◌↔◌, ℕ, filter, refl, ◌+◌, ◌<◌, ◌≤◌, ◌==◌, Bool, true, false, not, cond, IsTrue, List, [], ◌∷◌, ◌++◌, length, take, get_or, slice_get, Option, Some, None, Any, Contains, inl, inr, sym, ap, ◌∙◌, subst, append-nil, append_assoc, arith}
-use Rattle.std.specs.List.{list_any}
-use Rattle.std.specs.Option.{IfSome, IsSomeAnd, option_map}
-use Rattle.std.proofs.lemmas.Bool.{cases_lt}
+use Rattle.mls_stitch.proofs.Common.{list_any, IfSome, IsSomeAnd, option_map, cases_lt, All-append, All-contains, All-filter, All-nil, Contains-push_cases, filter_more, filter_passes, get_or_from_slice_get, same_Some, slice_get_within, Rect, Point, IsWithin, holds, meets, Piece, Contains-filter, Tile, AreSearched, AreMet, EncloseBlocks, IsInPart, keys_of, IsLost, KeepsKeys, Surround, unlisted_of, IsHeld, HoldsAt, AreBlocks, block_at, LaidTile}
 use Rattle.std.proofs.lemmas.List.Filters.{length-filter_both}
-use Rattle.std.proofs.lemmas.List.Elements.{All-append, All-contains, All-filter, All-nil, Contains-push_cases, filter_more, filter_passes}
-use Rattle.std.proofs.lemmas.Option.{get_or_from_slice_get, same_Some, slice_get_within}
-use Rattle.mls_geom.specs.Rects.{Rect, Point, IsWithin, holds, meets}
-use Rattle.mls_geom.specs.declared.piece.Piece.{Piece}
-use Rattle.mls_geom.proofs.Ascending.{Contains-filter}
 use Rattle.mls_geom.proofs.JoinedLists.{Any-append_left, Any-append_right}
-use Rattle.mls_tilepool.specs.declared.tile.Tile.{Tile}
-use Rattle.mls_stitch.specs.Areas.{AreSearched}
-use Rattle.mls_stitch.specs.Gathering.{AreMet, EncloseBlocks, IsInPart}
-use Rattle.mls_stitch.specs.Pending.{keys_of}
-use Rattle.mls_stitch.specs.Placing.{IsLost, KeepsKeys, Surround, unlisted_of}
-use Rattle.mls_stitch.specs.Replacements.{IsHeld}
-use Rattle.mls_stitch.specs.Stitches.{HoldsAt}
-use Rattle.mls_stitch.specs.Tilings.{AreBlocks, block_at}
-use Rattle.mls_stitch.specs.declared.laid_tile.LaidTile.{LaidTile}
 use Rattle.mls_stitch.proofs.CloseSquares.{close_in_grown}
 use Rattle.mls_stitch.proofs.DistinctNumbers.{cases_Contains}
 use Rattle.mls_stitch.proofs.FreshTiles.{entry-keys_of, list_any-Contains, list_any-absent}

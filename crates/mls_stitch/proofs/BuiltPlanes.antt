@@ -1,15 +1,6 @@
 -- The strips of a picture, laid as the tiles of an owner and stitched.
 use Rattle.std.proofs.Common.{◌≡◌, ◌≢◌, ℕ, ◌<◌, List, [], length, map, AllPairs, Option, refl, sym, ap, ◌∙◌, subst, arith}
-use Rattle.mls_geom.specs.Locality.{AreUnorderedStrips}
-use Rattle.mls_geom.specs.Pictures.{picture_of}
-use Rattle.mls_geom.specs.World.{world}
-use Rattle.mls_geom.specs.declared.piece.Piece.{Piece}
-use Rattle.mls_tilepool.specs.declared.tile.Tile.{Tile}
-use Rattle.mls_stitch.specs.Fresh.{fresh_at}
-use Rattle.mls_stitch.specs.Pending.{AwaitStitches}
-use Rattle.mls_stitch.specs.Placing.{Lays}
-use Rattle.mls_stitch.specs.Tilings.{AreTiledAs, IsMaximal, IsPlane, shown}
-use Rattle.mls_stitch.specs.declared.laid_tile.LaidTile.{LaidTile}
+use Rattle.mls_stitch.proofs.Common.{AreUnorderedStrips, picture_of, world, Piece, Tile, fresh_at, AwaitStitches, Lays, AreTiledAs, IsMaximal, IsPlane, shown, LaidTile}
 use Rattle.mls_stitch.proofs.BuiltTiles.{AwaitStitches-strips, IsMaximal-built, shown-built}
 use Rattle.mls_stitch.proofs.ReplacedBlocks.{piece_of}
 use Rattle.mls_stitch.proofs.ShownTiles.{KeysDiffer}

@@ -1,26 +1,7 @@
 -- Building: the strips of a picture, laid under keys of their own, are the blocks of a plane.
 use Rattle.std.proofs.Common.{◌≡◌, ◌≢◌, ℕ, true, List, [], map, get_or, Some, IsTrue, All, AllPairs, Contains, inl, inr, refl, sym, ap, ◌∙◌, subst, subst₂, le_refl}
-use Rattle.std.specs.Option.{IfSome}
-use Rattle.std.proofs.lemmas.Bool.{cases_Bool}
-use Rattle.std.proofs.lemmas.List.Elements.{All-contains, All-map, All-nil, Contains-get_or}
-use Rattle.mls_geom.specs.Rects.{Rect, IsRectangleIn, Point, holds}
-use Rattle.mls_geom.specs.Locality.{AreUnorderedStrips}
-use Rattle.mls_geom.specs.Pictures.{Picture, picture_of}
-use Rattle.mls_geom.specs.Strips.{IsStrip}
-use Rattle.mls_geom.specs.World.{world}
-use Rattle.mls_geom.specs.declared.piece.Piece.{Piece}
-use Rattle.mls_geom.proofs.Ascending.{Contains-map}
+use Rattle.mls_stitch.proofs.Common.{IfSome, cases_Bool, All-contains, All-map, All-nil, Contains-get_or, Rect, IsRectangleIn, Point, holds, AreUnorderedStrips, Picture, picture_of, IsStrip, world, Piece, Contains-map, tile_in, Tile, fresh_at, AwaitStitches, IsRightOrListed, keys_of, GiveWay, unstitched, HoldsAt, LeadsTo, beyond, AreBlocks, AreTiledAs, ArePlaced, IsMaximal, block_at, shown, IsLaid, LaidTile, Stitch}
 use Rattle.mls_geom.proofs.TouchedStrips.{one_strip}
-use Rattle.mls_tilepool.specs.Pools.{tile_in}
-use Rattle.mls_tilepool.specs.declared.tile.Tile.{Tile}
-use Rattle.mls_stitch.specs.Fresh.{fresh_at}
-use Rattle.mls_stitch.specs.Pending.{AwaitStitches, IsRightOrListed, keys_of}
-use Rattle.mls_stitch.specs.Placing.{GiveWay, unstitched}
-use Rattle.mls_stitch.specs.Stitches.{HoldsAt, LeadsTo, beyond}
-use Rattle.mls_stitch.specs.Tilings.{AreBlocks, AreTiledAs, ArePlaced, IsMaximal, block_at, shown}
-use Rattle.mls_stitch.specs.Walks.{IsLaid}
-use Rattle.mls_stitch.specs.declared.laid_tile.LaidTile.{LaidTile}
-use Rattle.mls_stitch.specs.declared.stitch.Stitch.{Stitch}
 use Rattle.mls_stitch.proofs.DistinctNumbers.{cases_Contains}
 use Rattle.mls_stitch.proofs.FreshTiles.{AllPairs-either, AllPairs-from_map, Contains-from_map, IfSome-each, entry-keys_of, fresh_at-absent, fresh_at-entry, fresh_at-listed, keys_of-listed, nothing_in_nil}
 use Rattle.mls_stitch.proofs.MaximalTiles.{IsMaximal-strips, shown-strips}

@@ -1,13 +1,6 @@
 -- Squares that share a side or a corner, and the squares to which stitches lead.
 use Rattle.std.proofs.Common.{◌≡◌, ◌⊎◌, ◌-◌, true, false, inl, inr, ap, ◌∙◌, arith}
-use Rattle.std.proofs.lemmas.Bool.{both_ways, cases_lt, false_from_ne_true}
-use Rattle.mls_geom.specs.Rects.{Rect, Point, IsRectangleIn, grown, holds}
-use Rattle.mls_geom.specs.World.{world}
-use Rattle.mls_geom.proofs.Holds.{between_holds, holds_between}
-use Rattle.mls_stitch.specs.Placing.{AreClose}
-use Rattle.mls_stitch.specs.Stitches.{beyond}
-use Rattle.mls_stitch.specs.declared.stitch.Stitch.{Stitch}
-use Rattle.mls_stitch.specs.declared.stitch.Stitch.TheVariants.{Lb, Bl, Tr, Rt}
+use Rattle.mls_stitch.proofs.Common.{both_ways, cases_lt, false_from_ne_true, Rect, Point, IsRectangleIn, grown, holds, world, between_holds, holds_between, AreClose, beyond, Stitch, Lb, Bl, Tr, Rt}
 
 pub close_back : (p q : Point) → AreClose p q → AreClose q p
 close_back p q close = record { left = close.right; right = close.left; below = close.above; above = close.below }

@@ -1,19 +1,8 @@
 -- Blocks cut in two by a line, and two blocks as one: the parts have exactly the squares of the whole.
 use Rattle.std.proofs.Common.{◌≡◌, ◌≢◌, ◌⊎◌, ℕ, ◌<◌, true, IsTrue, List, [], ◌∷◌, Option, Some, IsSome, All, AllPairs, Any, inl, inr, refl, sym, ap, ◌∙◌, subst, arith}
-use Rattle.std.proofs.lemmas.Bool.{cases_lt}
-use Rattle.std.proofs.lemmas.Bool.Decides.{nat_tests}
-use Rattle.std.proofs.lemmas.List.Elements.{All-cons, All-nil}
+use Rattle.mls_stitch.proofs.Common.{cases_lt, nat_tests, All-cons, All-nil, same_Some, Point, IsRectangleIn, holds, world, Piece, Contains-first, Contains-rest, between_holds, holds_between, AreDisjoint, TakePlace, HoldsAt, AreBlocks}
 use Rattle.std.proofs.lemmas.List.Kept.{AllPairs-cons}
-use Rattle.std.proofs.lemmas.Option.{same_Some}
-use Rattle.mls_geom.specs.Rects.{Point, IsRectangleIn, holds}
-use Rattle.mls_geom.specs.World.{world}
-use Rattle.mls_geom.specs.declared.piece.Piece.{Piece}
-use Rattle.mls_geom.proofs.Ascending.{Contains-first, Contains-rest}
-use Rattle.mls_geom.proofs.Holds.{between_holds, holds_between}
-use Rattle.mls_stitch.specs.Replacements.{AreDisjoint, TakePlace}
 use Rattle.mls_stitch.specs.Splits.{IsCutAt, JoinAlong, JoinInX, JoinInY, first_part, joined_along, joined_x, joined_y, left_part, lower_of, right_part, second_part, upper_of}
-use Rattle.mls_stitch.specs.Stitches.{HoldsAt}
-use Rattle.mls_stitch.specs.Tilings.{AreBlocks}
 use Rattle.mls_stitch.specs.declared.split.Axis.{Axis}
 use Rattle.mls_stitch.specs.declared.split.Axis.TheVariants.{X, Y}
 use Rattle.mls_stitch.proofs.FreshTiles.{Contains-first_or_rest, nothing_in_nil}

@@ -1,9 +1,7 @@
 -- Lists of numbers, none of which stands twice.
 use Rattle.std.proofs.Common.{◌≢◌, ℕ, ◌≤◌, ◌⊎◌, inl, inr, nat_eq, List, length}
-use Rattle.std.specs.List.{All, AllPairs, Contains, list_any}
-use Rattle.std.proofs.lemmas.Bool.{both_ways, cases_Bool, eqb-true, ne_eqb}
+use Rattle.mls_stitch.proofs.Common.{All, AllPairs, Contains, list_any, both_ways, cases_Bool, eqb-true, ne_eqb, All-contains}
 use Rattle.std.proofs.lemmas.Cmp.{nat_eq_equiv}
-use Rattle.std.proofs.lemmas.List.Elements.{All-contains}
 use Rattle.std.proofs.lemmas.Map.Keys.{IsDistinct-from_apart}
 use Rattle.std.proofs.lemmas.Map.Made.{length-le_from_is_member}
 use Rattle.std.proofs.lemmas.Map.Views.{Contains-from_any, list_any-from_Contains}

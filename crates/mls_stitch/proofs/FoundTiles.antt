@@ -1,19 +1,8 @@
 -- What area search found, once it is sorted.
 use Rattle.std.proofs.Common.{◌≡◌, ◌≢◌, ℕ, true, false, Ordering, ◌&&◌, ◌||◌, ◌==◌, nat_lt, max, List, get_or, Option, AllPairs, IsPermutation, inl, inr, sym, ap, ◌∙◌, subst, arith}
-use Rattle.std.specs.List.Sorted.{IsSortedByKey}
+use Rattle.mls_stitch.proofs.Common.{IsSortedByKey, cases_eq, nat_tests, All-permutation, ranks_by, sorted_far, Rect, IsRectangleIn, holds, world, Piece, between_holds, AreInArea, IsFound, MeetArea, comes_first, first_row, AreBlocks, LaidTile}
 use Rattle.std.specs.Ordering.{is_lt, nat_cmp, ordering_then}
-use Rattle.std.proofs.lemmas.Bool.{cases_eq}
-use Rattle.std.proofs.lemmas.Bool.Decides.{nat_tests}
 use Rattle.std.proofs.lemmas.Cmp.{nat_cmp_total, on_total, then_total}
-use Rattle.std.proofs.lemmas.List.Sorted.{All-permutation, ranks_by, sorted_far}
-use Rattle.mls_geom.specs.Rects.{Rect, IsRectangleIn, holds}
-use Rattle.mls_geom.specs.World.{world}
-use Rattle.mls_geom.specs.declared.piece.Piece.{Piece}
-use Rattle.mls_geom.proofs.Holds.{between_holds}
-use Rattle.mls_stitch.specs.Areas.{AreInArea, IsFound, MeetArea, comes_first}
-use Rattle.mls_stitch.specs.Enumerations.{first_row}
-use Rattle.mls_stitch.specs.Tilings.{AreBlocks}
-use Rattle.mls_stitch.specs.declared.laid_tile.LaidTile.{LaidTile}
 use Rattle.mls_stitch.proofs.Listings.{first_row_found, meets_lines, one_tile}
 use Rattle.mls_stitch.proofs.MovedTiles.{any_moved, once_moved}
 use Rattle.mls_stitch.proofs.Sides.{legal-AreBlocks}

@@ -1,29 +1,9 @@
 -- What paints over a plane may take the place of the tiles that it touches: the strips of the squares that these tiles and the painted pieces cover.
 use Rattle.std.proofs.Common.{◌≡◌, ◌≢◌, ◌↔◌, ℕ, zero, suc, ◌<◌, max, true, List, [], ◌∷◌, map, ◌++◌, get_or, All, AllPairs, Any, Option, Some, IsSome, IsSomeAnd, IsTrue, inl, inr, refl, ap, subst, ◌∙◌, sym, is_some, suc-le-suc, le_of_suc-le-suc, arith}
-use Rattle.std.proofs.lemmas.List.{length-map, get_or-map}
-use Rattle.std.proofs.lemmas.List.Elements.{All-append, All-cons, All-map}
-use Rattle.std.proofs.lemmas.Bool.Decides.{nat_tests}
-use Rattle.std.proofs.lemmas.Option.{same_Some}
-use Rattle.mls_geom.specs.Locality.{AreCoveredStrips, HaveKinds, laid, uncovered}
-use Rattle.mls_geom.specs.Pictures.{Picture}
-use Rattle.mls_geom.specs.Rects.{Rect, Point, IsRectangleIn, common, grown, holds}
-use Rattle.mls_geom.specs.Strips.{IsStrip, comes_before}
-use Rattle.mls_geom.specs.World.{AreLegal, world}
-use Rattle.mls_geom.specs.declared.piece.Piece.{Piece}
-use Rattle.mls_geom.proofs.Ascending.{AllPairs-map}
-use Rattle.mls_geom.proofs.Holds.{holds_between, between_holds}
+use Rattle.mls_stitch.proofs.Common.{length-map, get_or-map, All-append, All-cons, All-map, nat_tests, same_Some, AreCoveredStrips, HaveKinds, laid, uncovered, Picture, Rect, Point, IsRectangleIn, common, grown, holds, IsStrip, comes_before, AreLegal, world, Piece, AllPairs-map, holds_between, between_holds, overlaid_outside, holds_outer, Tile, AreInArea, comes_first, keys_of, AreDisjoint, IsHeld, TakePlace, HoldsAt, AreBlocks, IsPlane, block_at, LaidTile}
 use Rattle.mls_geom.proofs.JoinedLists.{Any-append_left, Any-append_cases}
-use Rattle.mls_geom.proofs.Overlays.{overlaid_outside}
-use Rattle.mls_geom.proofs.PiecePictures.{holds_outer}
 use Rattle.mls_geom.proofs.StripPictures.{kind-IsStrip}
 use Rattle.mls_geom.proofs.TouchedStrips.{holder, one_strip, overlaid_covered}
-use Rattle.mls_tilepool.specs.declared.tile.Tile.{Tile}
-use Rattle.mls_stitch.specs.Areas.{AreInArea, comes_first}
-use Rattle.mls_stitch.specs.Pending.{keys_of}
-use Rattle.mls_stitch.specs.Replacements.{AreDisjoint, IsHeld, TakePlace}
-use Rattle.mls_stitch.specs.Stitches.{HoldsAt}
-use Rattle.mls_stitch.specs.Tilings.{AreBlocks, IsPlane, block_at}
-use Rattle.mls_stitch.specs.declared.laid_tile.LaidTile.{LaidTile}
 
 -- the rectangles and kinds of the listed tiles
 abbrev pub pieces_of : List LaidTile → List Piece

@@ -1,17 +1,7 @@
 -- Tiles listed with their pieces, by their keys.
 use Rattle.std.proofs.Common.{◌≡◌, ◌≢◌, ◌⊎◌, ℕ, zero, suc, true, false, ◌==◌, List, [], ◌∷◌, map, Option, Some, None, inl, inr, refl, sym, ap, ◌∙◌, subst, subst₂, le_of_suc-le-suc, eq-eqb, eqb-true, arith}
-use Rattle.std.specs.List.{AllPairs, Contains, list_any}
-use Rattle.std.specs.Option.{IfSome}
-use Rattle.std.proofs.lemmas.Bool.{cases_Bool, cond-false, cond-true, false_from_ne_true}
-use Rattle.std.proofs.lemmas.List.{get_or_default, get_or-map, length-map}
-use Rattle.std.proofs.lemmas.List.Elements.{All-contains}
+use Rattle.mls_stitch.proofs.Common.{AllPairs, Contains, list_any, IfSome, cases_Bool, cond-false, cond-true, false_from_ne_true, get_or_default, get_or-map, length-map, All-contains, none-some, same_Some, Piece, AllPairs-first, AllPairs-rest, Contains-first, Contains-map, Contains-rest, fresh_at, keys_of, LaidTile}
 use Rattle.std.proofs.lemmas.List.Folds.{Any-from_list_any, list_any-from_Any}
-use Rattle.std.proofs.lemmas.Option.{none-some, same_Some}
-use Rattle.mls_geom.specs.declared.piece.Piece.{Piece}
-use Rattle.mls_geom.proofs.Ascending.{AllPairs-first, AllPairs-rest, Contains-first, Contains-map, Contains-rest}
-use Rattle.mls_stitch.specs.Fresh.{fresh_at}
-use Rattle.mls_stitch.specs.Pending.{keys_of}
-use Rattle.mls_stitch.specs.declared.laid_tile.LaidTile.{LaidTile}
 
 -- an option is none or some
 pub cases_Option : {X : Type 0} (o : Option X) → (o ≡ None) ⊎ ((x : X) × (o ≡ Some x))

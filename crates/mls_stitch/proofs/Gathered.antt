@@ -1,28 +1,8 @@
 -- Bounds, and the tiles that a search or a scan of an area found.
 use Rattle.std.proofs.Common.{◌≡◌, ◌⊎◌, ℕ, ◌+◌, ◌<◌, take, Bool, ◌&&◌, true, false, IsTrue, List, [], ◌∷◌, ◌++◌, length, get_or, Option, Some, None, All, Any, Contains, filter, inl, inr, refl, sym, ap, ◌∙◌, subst, arith}
-use Rattle.std.specs.Option.{IfSome, IsSome}
-use Rattle.std.proofs.lemmas.Bool.{both_ways, cases_eq, cond-false, ne_eqb}
-use Rattle.std.proofs.lemmas.List.{take_more}
-use Rattle.std.proofs.lemmas.List.Elements.{All-contains, All-filter, All-push, Contains-append_left, Contains-append_right, filter_passes}
-use Rattle.std.proofs.lemmas.Option.{same_Some}
-use Rattle.mls_geom.specs.Locality.{touches}
-use Rattle.mls_geom.specs.Rects.{Rect, Point, IsRectangleIn, IsWithin, grown, holds, joined, meets}
-use Rattle.mls_geom.specs.World.{world}
-use Rattle.mls_geom.specs.declared.piece.Piece.{Piece}
-use Rattle.mls_geom.proofs.Ascending.{Contains-filter, Contains-first, Contains-map}
-use Rattle.mls_geom.proofs.Holds.{between_holds, holds_between}
+use Rattle.mls_stitch.proofs.Common.{IfSome, IsSome, both_ways, cases_eq, cond-false, ne_eqb, take_more, All-contains, All-filter, All-push, Contains-append_left, Contains-append_right, filter_passes, same_Some, touches, Rect, Point, IsRectangleIn, IsWithin, grown, holds, joined, meets, world, Piece, Contains-filter, Contains-first, Contains-map, between_holds, holds_between, holds_outer, tile_in, Tile, IsFound, MeetArea, IsListedTo, AreMet, keys_of, AreBlocks, IsLaid, LaidTile}
 use Rattle.mls_geom.proofs.JoinedRects.{IsWithin-joined}
 use Rattle.mls_geom.proofs.KindsShown.{common_square, meets_by_square}
-use Rattle.mls_geom.proofs.PiecePictures.{holds_outer}
-use Rattle.mls_tilepool.specs.Pools.{tile_in}
-use Rattle.mls_tilepool.specs.declared.tile.Tile.{Tile}
-use Rattle.mls_stitch.specs.Areas.{IsFound, MeetArea}
-use Rattle.mls_stitch.specs.Enumerations.{IsListedTo}
-use Rattle.mls_stitch.specs.Gathering.{AreMet}
-use Rattle.mls_stitch.specs.Pending.{keys_of}
-use Rattle.mls_stitch.specs.Tilings.{AreBlocks}
-use Rattle.mls_stitch.specs.Walks.{IsLaid}
-use Rattle.mls_stitch.specs.declared.laid_tile.LaidTile.{LaidTile}
 use Rattle.mls_stitch.proofs.FreshTiles.{entry-keys_of}
 use Rattle.mls_stitch.proofs.Listings.{MeetArea-listed}
 use Rattle.mls_stitch.proofs.ReplacedStitches.{Any-contained}

@@ -1,17 +1,6 @@
 -- Stitches of a tile that stays: each leads where it did, unless its square came to another tile.
 use Rattle.std.proofs.Common.{◌≡◌, ℕ, true, Option, Some, None, List, Contains, inl, inr, refl, sym, ap, ◌∙◌, subst}
-use Rattle.std.proofs.lemmas.Bool.{both_ways}
-use Rattle.std.proofs.lemmas.Option.{same_Some}
-use Rattle.mls_geom.specs.Rects.{Point, holds}
-use Rattle.mls_geom.specs.World.{world}
-use Rattle.mls_geom.specs.declared.piece.Piece.{Piece}
-use Rattle.mls_geom.proofs.PiecePictures.{holds_outer}
-use Rattle.mls_tilepool.specs.Pools.{tile_in}
-use Rattle.mls_tilepool.specs.declared.tile.Tile.{Tile}
-use Rattle.mls_stitch.specs.Replacements.{IsKept, IsKeptUnless}
-use Rattle.mls_stitch.specs.Stitches.{HoldsAt, LeadsTo, beyond, stitch_of}
-use Rattle.mls_stitch.specs.Tilings.{AreBlocks, AreTiledAs, IsPlaced}
-use Rattle.mls_stitch.specs.declared.stitch.Stitch.{Stitch}
+use Rattle.mls_stitch.proofs.Common.{both_ways, same_Some, Point, holds, world, Piece, holds_outer, tile_in, Tile, IsKept, IsKeptUnless, HoldsAt, LeadsTo, beyond, stitch_of, AreBlocks, AreTiledAs, IsPlaced, Stitch}
 use Rattle.mls_stitch.proofs.CloseSquares.{same_square}
 use Rattle.mls_stitch.proofs.DistinctNumbers.{cases_Contains}
 use Rattle.mls_stitch.proofs.Sides.{HoldsAt-block, legal-AreBlocks, placed_block, there-IsSomeAnd}

@@ -1,18 +1,6 @@
 -- Tiles that give way in turn, one or more at a time.
 use Rattle.std.proofs.Common.{◌≡◌, ◌≢◌, ◌⊎◌, ℕ, ◌+◌, ◌<◌, ◌≤◌, List, [], ◌∷◌, ◌++◌, length, map, Option, Some, None, IsSome, IfSome, get_or, take, drop, min, length-drop, All, AllPairs, Contains, inl, inr, refl, sym, ap, ◌∙◌, subst, append_assoc, append-nil, arith, zero, suc, length-append}
-use Rattle.std.specs.List.{slice_get, slice_index_or}
-use Rattle.std.proofs.lemmas.Bool.{cases_lt}
-use Rattle.std.proofs.lemmas.List.{get_or-drop, get_or-take, length-map, length-take, map-append, take-append-drop, take_more}
-use Rattle.std.proofs.lemmas.List.Elements.{All-append, All-cons, All-contains, All-drop, All-map, All-nil, Contains-append_cases, Contains-append_left, Contains-append_right, Contains-get_or}
-use Rattle.std.proofs.lemmas.Option.{get_or_from_slice_get, slice_get-get_or, slice_get_within}
-use Rattle.mls_geom.specs.declared.piece.Piece.{Piece}
-use Rattle.mls_geom.proofs.Ascending.{AllPairs-append, Contains-first}
-use Rattle.mls_tilepool.specs.Pools.{Changes, IsOwner, Pool, count_of, room_of, tile_at, tile_in, tiles_of}
-use Rattle.mls_tilepool.specs.declared.tile.Tile.{Tile}
-use Rattle.mls_stitch.specs.Pending.{keys_of}
-use Rattle.mls_stitch.specs.Placing.{GiveWay, Lays, moved_tile, placed_at, unstitched}
-use Rattle.mls_stitch.specs.Tilings.{ChangesOnly}
-use Rattle.mls_stitch.specs.declared.laid_tile.LaidTile.{LaidTile}
+use Rattle.mls_stitch.proofs.Common.{slice_get, slice_index_or, cases_lt, get_or-drop, get_or-take, length-map, length-take, map-append, take-append-drop, take_more, All-append, All-cons, All-contains, All-drop, All-map, All-nil, Contains-append_cases, Contains-append_left, Contains-append_right, Contains-get_or, get_or_from_slice_get, slice_get-get_or, slice_get_within, Piece, AllPairs-append, Contains-first, Changes, IsOwner, Pool, count_of, room_of, tile_at, tile_in, tiles_of, Tile, keys_of, GiveWay, Lays, moved_tile, placed_at, unstitched, ChangesOnly, LaidTile}
 use Rattle.mls_stitch.proofs.DistinctNumbers.{cases_Contains}
 use Rattle.mls_stitch.proofs.FreshTiles.{Contains-first_or_rest, nothing_in_nil}
 

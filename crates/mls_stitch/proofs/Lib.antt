@@ -2,6 +2,7 @@ pub mod AroundTiles
 pub mod BuiltPlanes
 pub mod BuiltTiles
 pub mod CloseSquares
+pub mod Common
 pub mod CutBlocks
 pub mod DistinctNumbers
 pub mod FoundTiles

@@ -1,21 +1,7 @@
 -- Lists of laid tiles that have each square of the world.
 use Rattle.std.proofs.Common.{◌≡◌, ◌≢◌, ℕ, ◌≤◌, max, true, IsTrue, nat_lt, ◌==◌, ◌&&◌, ◌||◌, Option, Some, List, map, length, get_or, All, Any, AllPairs, Contains, sym, ap, ◌∙◌, subst, arith}
-use Rattle.std.proofs.lemmas.Bool.Decides.{nat_tests}
-use Rattle.std.proofs.lemmas.List.{length-map}
-use Rattle.std.proofs.lemmas.List.Elements.{All-contains, All-map}
-use Rattle.std.proofs.lemmas.Option.{same_Some}
-use Rattle.mls_geom.specs.Rects.{Rect, Point, holds}
-use Rattle.mls_geom.specs.Pictures.{picture_of}
-use Rattle.mls_geom.specs.Strips.{AreStrips, IsStrip, comes_before}
-use Rattle.mls_geom.specs.World.{world}
-use Rattle.mls_geom.specs.declared.piece.Piece.{Piece}
-use Rattle.mls_geom.proofs.Ascending.{AllPairs-map, Contains-map}
-use Rattle.mls_geom.proofs.PiecePictures.{holds_outer}
+use Rattle.mls_stitch.proofs.Common.{nat_tests, length-map, All-contains, All-map, same_Some, Rect, Point, holds, picture_of, AreStrips, IsStrip, comes_before, world, Piece, AllPairs-map, Contains-map, holds_outer, Tile, AreInArea, IsMaximal, IsPlane, block_at, block_of, shown, LaidTile}
 use Rattle.mls_tilepool.proofs.TileLists.{tile_in_contains}
-use Rattle.mls_tilepool.specs.declared.tile.Tile.{Tile}
-use Rattle.mls_stitch.specs.Areas.{AreInArea}
-use Rattle.mls_stitch.specs.Tilings.{IsMaximal, IsPlane, block_at, block_of, shown}
-use Rattle.mls_stitch.specs.declared.laid_tile.LaidTile.{LaidTile}
 use Rattle.mls_stitch.proofs.DistinctNumbers.{length-le-AllPairs}
 use Rattle.mls_stitch.proofs.MaximalTiles.{holds_corner, shown-pieces, strip-IsMaximal}
 use Rattle.mls_stitch.proofs.ShownTiles.{KeysDiffer, block_at-KeysDiffer, tile-block_at}

@@ -1,25 +1,7 @@
 -- What area search has listed so far, from step to step.
 use Rattle.std.proofs.Common.{◌≡◌, ◌≢◌, ◌⊎◌, ℕ, zero, suc, ◌+◌, ◌-◌, ◌<◌, ◌≤◌, true, IsTrue, List, [], ◌∷◌, ◌++◌, length, get_or, Option, Some, None, All, Any, Contains, inl, inr, refl, sym, ap, ◌∙◌, subst, arith}
-use Rattle.std.specs.Option.{IsSome, IsSomeAnd, option_map}
-use Rattle.std.proofs.lemmas.Bool.{both_ways, cases_lt}
-use Rattle.std.proofs.lemmas.Bool.Decides.{nat_tests}
-use Rattle.std.proofs.lemmas.List.{get_or_append_left, length_push}
-use Rattle.std.proofs.lemmas.List.Elements.{All-push, Contains-append_left, Contains-push}
+use Rattle.mls_stitch.proofs.Common.{IsSome, IsSomeAnd, option_map, both_ways, cases_lt, nat_tests, get_or_append_left, length_push, All-push, Contains-append_left, Contains-push, same_Some, Point, Rect, IsRectangleIn, holds, meets, world, Piece, holds_between, between_holds, IsFound, MeetArea, IsListedTo, IsParent, IsReached, first_row, LeadsTo, AreBlocks, IsPlane, block_at, block_of, IsLaid, IsLaidAt, LaidTile, Lb, Tr, tile_in, Tile}
 use Rattle.std.proofs.lemmas.List.Quantifiers.{all_pairs_push}
-use Rattle.std.proofs.lemmas.Option.{same_Some}
-use Rattle.mls_geom.specs.Rects.{Point, Rect, IsRectangleIn, holds, meets}
-use Rattle.mls_geom.specs.World.{world}
-use Rattle.mls_geom.specs.declared.piece.Piece.{Piece}
-use Rattle.mls_geom.proofs.Holds.{holds_between, between_holds}
-use Rattle.mls_stitch.specs.Areas.{IsFound, MeetArea}
-use Rattle.mls_stitch.specs.Enumerations.{IsListedTo, IsParent, IsReached, first_row}
-use Rattle.mls_stitch.specs.Stitches.{LeadsTo}
-use Rattle.mls_stitch.specs.Tilings.{AreBlocks, IsPlane, block_at, block_of}
-use Rattle.mls_stitch.specs.Walks.{IsLaid, IsLaidAt}
-use Rattle.mls_stitch.specs.declared.laid_tile.LaidTile.{LaidTile}
-use Rattle.mls_stitch.specs.declared.stitch.Stitch.TheVariants.{Lb, Tr}
-use Rattle.mls_tilepool.specs.Pools.{tile_in}
-use Rattle.mls_tilepool.specs.declared.tile.Tile.{Tile}
 use Rattle.mls_stitch.proofs.ListedTiles.{length-le-AreLaid}
 use Rattle.mls_stitch.proofs.Sides.{holds-HoldsAt, left_neighbour, legal-AreBlocks, lower_neighbour, right_neighbour, there-IsSomeAnd}
 

@@ -1,17 +1,6 @@
 -- Planes whose tiles are maximal strips.
 use Rattle.std.proofs.Common.{◌≡◌, ◌≢◌, ℕ, true, Some, List, get_or, All, Any, AllPairs, Contains, sym, ap, subst, le_refl, arith}
-use Rattle.std.proofs.lemmas.List.Elements.{All-contains}
-use Rattle.mls_geom.specs.Locality.{AreUnorderedStrips}
-use Rattle.mls_geom.specs.Rects.{Rect, IsRectangleIn, holds}
-use Rattle.mls_geom.specs.Pictures.{empty_picture, picture_of}
-use Rattle.mls_geom.specs.Strips.{IsStrip}
-use Rattle.mls_geom.specs.World.{world}
-use Rattle.mls_geom.specs.declared.piece.Piece.{Piece}
-use Rattle.mls_geom.proofs.Holds.{between_holds}
-use Rattle.mls_geom.proofs.Overlays.{overlaid_agreed}
-use Rattle.mls_geom.proofs.PiecePictures.{holds_outer, space_outside}
-use Rattle.mls_tilepool.specs.declared.tile.Tile.{Tile}
-use Rattle.mls_stitch.specs.Tilings.{IsMaximal, IsPlane, block_at, blocks_of, shown}
+use Rattle.mls_stitch.proofs.Common.{All-contains, AreUnorderedStrips, Rect, IsRectangleIn, holds, empty_picture, picture_of, IsStrip, world, Piece, between_holds, overlaid_agreed, holds_outer, space_outside, Tile, IsMaximal, IsPlane, block_at, blocks_of, shown}
 use Rattle.mls_stitch.proofs.Sides.{legal-AreBlocks, one_block}
 use Rattle.mls_stitch.proofs.ShownTiles.{KeysDiffer, All-blocks_of, Contains-blocks_of, apart-blocks_of, legal-blocks_of, shown_same, whole-blocks_of}
 

@@ -1,14 +1,8 @@
 -- The same tiles listed in another order.
 use Rattle.std.proofs.Common.{◌≢◌, ℕ, ◌<◌, List, [], ◌∷◌, length, get_or, nat_eq, sym, ◌∙◌, arith}
-use Rattle.std.specs.List.{AllPairs, Any, IsDistinct}
-use Rattle.std.specs.List.Sorted.{IsPermutation}
-use Rattle.std.proofs.lemmas.Bool.{eqb-false, ne_eqb}
-use Rattle.std.proofs.lemmas.List.{get_or-map, length-map}
-use Rattle.std.proofs.lemmas.List.Sorted.{Contains-permutation, IsPermutation-map}
+use Rattle.mls_stitch.proofs.Common.{AllPairs, Any, IsDistinct, IsPermutation, eqb-false, ne_eqb, get_or-map, length-map, Contains-permutation, IsPermutation-map, keys_of, LaidTile}
 use Rattle.std.proofs.lemmas.Map.Keys.{apart_from_distinct, IsDistinct-from_apart}
 use Rattle.mls_geom.proofs.ListLemmas.{IsDistinct-moved}
-use Rattle.mls_stitch.specs.Pending.{keys_of}
-use Rattle.mls_stitch.specs.declared.laid_tile.LaidTile.{LaidTile}
 
 -- the keys differ as the entries' do
 keys_apart :

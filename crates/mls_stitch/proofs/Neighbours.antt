@@ -1,12 +1,6 @@
 -- The tiles to which stitches lead.
 use Rattle.std.proofs.Common.{◌≡◌, ℕ, List, Option, Some, None, sym, ap, ◌∙◌}
-use Rattle.std.proofs.lemmas.Option.{same_Some}
-use Rattle.std.specs.Option.{option_map}
-use Rattle.mls_geom.specs.declared.piece.Piece.{Piece}
-use Rattle.mls_tilepool.specs.declared.tile.Tile.{Tile}
-use Rattle.mls_stitch.specs.Tilings.{block_at}
-use Rattle.mls_stitch.specs.Walks.{IsLaid, laid_at}
-use Rattle.mls_stitch.specs.declared.laid_tile.LaidTile.{LaidTile}
+use Rattle.mls_stitch.proofs.Common.{same_Some, option_map, Piece, Tile, block_at, IsLaid, laid_at, LaidTile}
 
 laid_is : (block : Option Piece) (key : ℕ) (tile : LaidTile) → option_map (λ piece. record { id = key; piece = piece }) block ≡ Some tile → (block ≡ Some tile.piece) × (key ≡ tile.id)
 laid_is None key tile is = absurd (cc)

@@ -1,7 +1,6 @@
 -- What a change of one owner's tiles leaves of the planes of all others.
 use Rattle.std.proofs.Common.{◌≡◌, ◌≢◌, ℕ, Option, None, ap, sym, subst, ◌∙◌, is_some}
-use Rattle.mls_tilepool.specs.Pools.{Pool, IsOwner, Reserves, room_of}
-use Rattle.mls_stitch.specs.Tilings.{ChangesOnly, HasPlane, IsPlane}
+use Rattle.mls_stitch.proofs.Common.{Pool, IsOwner, Reserves, room_of, ChangesOnly, HasPlane, IsPlane}
 
 -- an owner differs from one who was not there
 pub apart_from_new : (pool : Pool) (owner other : ℕ) → room_of pool owner ≡ None → IsOwner pool other → other ≢ owner

@@ -1,36 +1,17 @@
 -- Painting keeps a plane maximal: where all tiles that painted pieces touch give way to the strips of what they and the pieces cover, every tile is a
 -- strip of the painted picture. Touched tiles that are such strips themselves may stay.
 use Rattle.std.proofs.Common.{◌≡◌, ◌≢◌, ℕ, zero, suc, ◌+◌, true, false, not, Bool, List, [], ◌∷◌, filter, ◌++◌, length, get_or, AllPairs, Contains, Option, Some, inl, inr, ap, subst, ◌∙◌, sym, suc-le-suc, le_of_suc-le-suc, arith}
-use Rattle.std.specs.List.{AllZip, list_any}
-use Rattle.std.specs.Option.{option_map}
-use Rattle.std.proofs.lemmas.Bool.{both_ways, cases_Bool, false_from_ne_true, not-true, not_from_false}
-use Rattle.std.proofs.lemmas.List.{length-append, length-map}
-use Rattle.std.proofs.lemmas.List.Elements.{All-append, All-contains, All-contains_itself, All-filter, All-map, Contains-append_cases, Contains-get_or, filter_passes}
+use Rattle.mls_stitch.proofs.Common.{AllZip, list_any, option_map, both_ways, cases_Bool, false_from_ne_true, not-true, not_from_false, length-append, length-map, All-append, All-contains, All-contains_itself, All-filter, All-map, Contains-append_cases, Contains-get_or, filter_passes, same_Some, AreCoveredStrips, AreUnorderedStrips, AreUntouched, covered_count, is_touched, laid, overlaid, holds, IsStrip, AreLegal, world, Piece, AllPairs-append, AllPairs-map, Contains-filter, Contains-map, overlaid_outside, holds_outer, Tile, keys_of, Replaces, AreBlocks, IsMaximal, IsPlane, block_at, block_of, blocks_of, shown, LaidTile}
 use Rattle.std.proofs.lemmas.List.Folds.{Any-from_list_any, list_any_at}
 use Rattle.std.proofs.lemmas.List.Kept.{AllPairs-filter}
-use Rattle.std.proofs.lemmas.Option.{same_Some}
-use Rattle.mls_geom.specs.Locality.{AreCoveredStrips, AreUnorderedStrips, AreUntouched, covered_count, is_touched, laid}
-use Rattle.mls_geom.specs.Pictures.{overlaid}
-use Rattle.mls_geom.specs.Rects.{holds}
-use Rattle.mls_geom.specs.Strips.{IsStrip}
 use Rattle.mls_geom.specs.TileCounts.{tile_count}
-use Rattle.mls_geom.specs.World.{AreLegal, world}
-use Rattle.mls_geom.specs.declared.piece.Piece.{Piece}
-use Rattle.mls_geom.proofs.Ascending.{AllPairs-append, AllPairs-map, Contains-filter, Contains-map}
 use Rattle.mls_geom.proofs.JoinedLists.{Any-append_left, Any-append_right}
 use Rattle.mls_geom.proofs.ListLemmas.{All-append_left, All-append_right}
-use Rattle.mls_geom.proofs.Overlays.{overlaid_outside}
-use Rattle.mls_geom.proofs.PiecePictures.{holds_outer}
 use Rattle.mls_geom.proofs.StripPictures.{kind-IsStrip}
 use Rattle.mls_geom.proofs.CoveredCounts.{fresh_strips_number}
 use Rattle.mls_geom.proofs.TouchedStrips.{one_strip, touched_strips_give_way}
 use Rattle.mls_geom.proofs.UnorderedStrips.{unordered_strips_number}
 use Rattle.mls_geom.proofs.UntouchedStrips.{untouched_strips_stay}
-use Rattle.mls_tilepool.specs.declared.tile.Tile.{Tile}
-use Rattle.mls_stitch.specs.Pending.{keys_of}
-use Rattle.mls_stitch.specs.Replacements.{Replaces}
-use Rattle.mls_stitch.specs.Tilings.{AreBlocks, IsMaximal, IsPlane, block_at, block_of, blocks_of, shown}
-use Rattle.mls_stitch.specs.declared.laid_tile.LaidTile.{LaidTile}
 use Rattle.mls_stitch.proofs.DistinctNumbers.{cases_Contains}
 use Rattle.mls_stitch.proofs.FreshStrips.{AreTouched, pieces_of}
 use Rattle.mls_stitch.proofs.FreshTiles.{Contains-from_map}

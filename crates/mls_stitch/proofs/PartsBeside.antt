@@ -1,12 +1,6 @@
 -- The parts of a rectangle beside another one inside it.
 use Rattle.std.proofs.Common.{◌≡◌, true, false, cond, IsTrue, List, [], ◌∷◌, Option, Some, None, inl, inr, refl, arith}
-use Rattle.std.specs.Option.{IsSomeAnd}
-use Rattle.std.proofs.lemmas.Bool.{both_ways, cases_lt}
-use Rattle.std.proofs.lemmas.Bool.Decides.{nat_tests}
-use Rattle.mls_geom.specs.Rects.{Rect, Point, has_squares, holds}
-use Rattle.mls_geom.proofs.Ascending.{Contains-first, Contains-rest}
-use Rattle.mls_geom.proofs.Holds.{between_holds, holds_between}
-use Rattle.mls_stitch.specs.Gathering.{IsInPart}
+use Rattle.mls_stitch.proofs.Common.{IsSomeAnd, both_ways, cases_lt, nat_tests, Rect, Point, has_squares, holds, Contains-first, Contains-rest, between_holds, holds_between, IsInPart}
 use Rattle.mls_stitch.proofs.ReplacedStitches.{Any-contained}
 
 -- the area as a rectangle, if it has squares

@@ -1,8 +1,6 @@
 -- Changes of one owner's tiles, one after another.
 use Rattle.std.proofs.Common.{ℕ, Option, refl, ◌∙◌}
-use Rattle.mls_tilepool.specs.Pools.{Pool, Changes}
-use Rattle.mls_tilepool.specs.declared.tile.Tile.{Tile}
-use Rattle.mls_stitch.specs.Tilings.{ChangesOnly}
+use Rattle.mls_stitch.proofs.Common.{Pool, Changes, Tile, ChangesOnly}
 
 pub ChangesOnly-refl : (pool : Pool) (owner : ℕ) → ChangesOnly pool pool owner
 ChangesOnly-refl pool owner = record { others = λ other differs. refl; rooms = refl; capacity = refl }

@@ -1,20 +1,6 @@
 -- Blocks after replacement: each square of the world is again in just one.
 use Rattle.std.proofs.Common.{◌≡◌, ◌≢◌, ◌⊎◌, ℕ, true, ◌==◌, IsTrue, List, map, Option, Some, None, inl, inr, refl, sym, ap, ◌∙◌, subst}
-use Rattle.std.specs.List.{AllPairs, Contains, list_any}
-use Rattle.std.specs.Option.{IfSome, option_or}
-use Rattle.std.proofs.lemmas.Bool.{cond-false, cond-true}
-use Rattle.std.proofs.lemmas.List.Elements.{All-contains}
-use Rattle.std.proofs.lemmas.Option.{none-some}
-use Rattle.mls_geom.specs.Rects.{IsRectangleIn, Point, holds}
-use Rattle.mls_geom.specs.World.{world}
-use Rattle.mls_geom.specs.declared.piece.Piece.{Piece}
-use Rattle.mls_geom.proofs.Ascending.{Contains-map}
-use Rattle.mls_stitch.specs.Fresh.{MayReplace, fresh_at, replaced, untouched}
-use Rattle.mls_stitch.specs.Pending.{keys_of}
-use Rattle.mls_stitch.specs.Replacements.{AreDisjoint, IsHeld}
-use Rattle.mls_stitch.specs.Stitches.{HoldsAt}
-use Rattle.mls_stitch.specs.Tilings.{AreBlocks}
-use Rattle.mls_stitch.specs.declared.laid_tile.LaidTile.{LaidTile}
+use Rattle.mls_stitch.proofs.Common.{AllPairs, Contains, list_any, IfSome, option_or, cond-false, cond-true, All-contains, none-some, IsRectangleIn, Point, holds, world, Piece, Contains-map, MayReplace, fresh_at, replaced, untouched, keys_of, AreDisjoint, IsHeld, HoldsAt, AreBlocks, LaidTile}
 use Rattle.mls_stitch.proofs.DistinctNumbers.{cases_Contains}
 use Rattle.mls_stitch.proofs.FreshTiles.{AllPairs-either, AllPairs-from_map, Contains-from_map, IfSome-each, cases_Option, entry-keys_of, fresh_at-absent, fresh_at-entry, fresh_at-listed, list_any-Contains, list_any-absent}
 use Rattle.mls_stitch.proofs.Sides.{HoldsAt-block, legal-AreBlocks, there-IsSomeAnd}

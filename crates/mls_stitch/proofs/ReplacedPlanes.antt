@@ -1,22 +1,8 @@
 -- Fresh tiles laid in place of touched ones, and stitched with those around them.
 use Rattle.std.proofs.Common.{◌≡◌, ◌≢◌, ℕ, ◌<◌, ◌≤◌, true, false, List, ◌++◌, drop, length, map, take, get_or, Option, Some, None, IsSome, All, AllPairs, Contains, slice_get, refl, sym, ap, ◌∙◌, subst, subst₂, arith}
-use Rattle.std.specs.Option.{option_map}
+use Rattle.mls_stitch.proofs.Common.{option_map, get_or_default, length-map, none-some, same_Some, slice_get-get_or, slice_get-map, slice_get_within, Point, holds, Piece, Contains-map, tile_in, Tile, MayReplace, replaced, AwaitStitches, keys_of, IsLost, Lays, Surround, Replaces, TakePlace, AreTiledAs, IsPlane, block_at, block_of, laid_at, LaidTile}
 use Rattle.std.proofs.Math.Seq.{drop-append_seam, take-append_seam}
-use Rattle.std.proofs.lemmas.List.{get_or_default, length-map}
-use Rattle.std.proofs.lemmas.Option.{none-some, same_Some, slice_get-get_or, slice_get-map, slice_get_within}
-use Rattle.mls_geom.specs.Rects.{Point, holds}
-use Rattle.mls_geom.specs.declared.piece.Piece.{Piece}
-use Rattle.mls_geom.proofs.Ascending.{Contains-map}
-use Rattle.mls_tilepool.specs.Pools.{tile_in}
-use Rattle.mls_tilepool.specs.declared.tile.Tile.{Tile}
 use Rattle.mls_tilepool.proofs.TileLists.{tile_in_contains}
-use Rattle.mls_stitch.specs.Fresh.{MayReplace, replaced}
-use Rattle.mls_stitch.specs.Pending.{AwaitStitches, keys_of}
-use Rattle.mls_stitch.specs.Placing.{IsLost, Lays, Surround}
-use Rattle.mls_stitch.specs.Replacements.{Replaces, TakePlace}
-use Rattle.mls_stitch.specs.Tilings.{AreTiledAs, IsPlane, block_at, block_of}
-use Rattle.mls_stitch.specs.Walks.{laid_at}
-use Rattle.mls_stitch.specs.declared.laid_tile.LaidTile.{LaidTile}
 use Rattle.mls_stitch.proofs.AroundTiles.{Surround-fewer}
 use Rattle.mls_stitch.proofs.DistinctNumbers.{length-le-AllPairs}
 use Rattle.mls_stitch.proofs.FreshTiles.{IfSome-each}

@@ -1,25 +1,6 @@
 -- Stitches after replacement: each is right, or leads from a listed tile to a listed tile.
 use Rattle.std.proofs.Common.{◌≡◌, ◌≢◌, ◌⊎◌, ℕ, true, false, cond, IsTrue, List, ◌++◌, map, get_or, Option, Some, None, inl, inr, refl, sym, ap, ◌∙◌, subst, subst₂}
-use Rattle.std.specs.List.{All, AllPairs, Any, Contains}
-use Rattle.std.proofs.lemmas.Bool.{both_ways, cases_Bool, false_from_ne_true}
-use Rattle.std.proofs.lemmas.List.Elements.{All-contains, Contains-append_left, Contains-append_right, Contains-get_or}
-use Rattle.std.proofs.lemmas.Option.{none-some, same_Some}
-use Rattle.mls_geom.specs.Rects.{Point, holds}
-use Rattle.mls_geom.specs.World.{world}
-use Rattle.mls_geom.specs.declared.piece.Piece.{Piece}
-use Rattle.mls_geom.proofs.PiecePictures.{holds_outer}
-use Rattle.mls_tilepool.specs.Pools.{tile_in}
-use Rattle.mls_tilepool.specs.declared.tile.Tile.{Tile}
-use Rattle.mls_stitch.specs.Fresh.{MayReplace, replaced}
-use Rattle.mls_stitch.specs.Pending.{AreListed, AwaitStitches, IsRightOrListed, keys_of}
-use Rattle.mls_stitch.specs.Placing.{AreClose, GiveWay, Surround, inside_only, moved_tile, placed_at, unstitched}
-use Rattle.mls_stitch.specs.Replacements.{IsHeld, TakePlace}
-use Rattle.mls_stitch.specs.Stitches.{HoldsAt, LeadsTo, beyond, stitch_of}
-use Rattle.mls_stitch.specs.Tilings.{AreTiledAs, ArePlaced}
-use Rattle.mls_stitch.specs.Walks.{IsLaid}
-use Rattle.mls_stitch.specs.declared.laid_tile.LaidTile.{LaidTile}
-use Rattle.mls_stitch.specs.declared.stitch.Stitch.{Stitch}
-use Rattle.mls_stitch.specs.declared.stitch.Stitch.TheVariants.{Lb, Bl, Tr, Rt}
+use Rattle.mls_stitch.proofs.Common.{All, AllPairs, Any, Contains, both_ways, cases_Bool, false_from_ne_true, All-contains, Contains-append_left, Contains-append_right, Contains-get_or, none-some, same_Some, Point, holds, world, Piece, holds_outer, tile_in, Tile, MayReplace, replaced, AreListed, AwaitStitches, IsRightOrListed, keys_of, AreClose, GiveWay, Surround, inside_only, moved_tile, placed_at, unstitched, IsHeld, TakePlace, HoldsAt, LeadsTo, beyond, stitch_of, AreTiledAs, ArePlaced, IsLaid, LaidTile, Stitch, Lb, Bl, Tr, Rt}
 use Rattle.mls_stitch.proofs.CloseSquares.{beyond_moved, close_back, corner_close, corner_square}
 use Rattle.mls_stitch.proofs.DistinctNumbers.{cases_Contains}
 use Rattle.mls_stitch.proofs.FreshTiles.{AllPairs-either, cases_Option, entry-keys_of, keys_of-listed}

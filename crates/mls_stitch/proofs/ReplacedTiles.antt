@@ -1,24 +1,6 @@
 -- Replacement as a whole: tiles that are laid and stitched as the new blocks have replaced the touched ones.
 use Rattle.std.proofs.Common.{◌≡◌, ◌≢◌, ◌⊎◌, ℕ, ◌+◌, ◌<◌, true, false, List, [], ◌∷◌, length, map, get_or, slice_get, Option, Some, None, All, Contains, inl, inr, refl, sym, ap, ◌∙◌, subst}
-use Rattle.std.specs.List.{AllZip}
-use Rattle.std.specs.Option.{option_map}
-use Rattle.std.proofs.lemmas.Bool.{both_ways, false_from_ne_true}
-use Rattle.std.proofs.lemmas.List.Elements.{All-head, All-map, All-tail, Contains-get_or}
-use Rattle.std.proofs.lemmas.Option.{none-some}
-use Rattle.mls_geom.specs.Rects.{Point, holds}
-use Rattle.mls_geom.specs.Pictures.{overlaid}
-use Rattle.mls_geom.specs.World.{world}
-use Rattle.mls_geom.specs.declared.piece.Piece.{Piece}
-use Rattle.mls_geom.proofs.Ascending.{AllPairs-map, Contains-map}
-use Rattle.mls_geom.proofs.Overlays.{Agrees, overlaid_agreed, overlaid_outside}
-use Rattle.mls_geom.proofs.PiecePictures.{holds_outer}
-use Rattle.mls_tilepool.specs.Pools.{tile_in}
-use Rattle.mls_tilepool.specs.declared.tile.Tile.{Tile}
-use Rattle.mls_stitch.specs.Fresh.{MayReplace, replaced}
-use Rattle.mls_stitch.specs.Pending.{keys_of}
-use Rattle.mls_stitch.specs.Replacements.{IsKept, Replaces}
-use Rattle.mls_stitch.specs.Tilings.{AreTiledAs, ArePlaced, IsPlane, block_at, block_of, shown}
-use Rattle.mls_stitch.specs.declared.laid_tile.LaidTile.{LaidTile}
+use Rattle.mls_stitch.proofs.Common.{AllZip, option_map, both_ways, false_from_ne_true, All-head, All-map, All-tail, Contains-get_or, none-some, Point, holds, overlaid, world, Piece, AllPairs-map, Contains-map, Agrees, overlaid_agreed, overlaid_outside, holds_outer, tile_in, Tile, MayReplace, replaced, keys_of, IsKept, Replaces, AreTiledAs, ArePlaced, IsPlane, block_at, block_of, shown, LaidTile}
 use Rattle.mls_stitch.proofs.KeptStitches.{IsKept-block}
 use Rattle.mls_stitch.proofs.ReplacedBlocks.{held-entry, held-touched, legal-entry, one_entry, piece_of, replaced-entry, replaced-gone, replaced-kept, replaced-stays, replaced_cases}
 use Rattle.mls_stitch.proofs.ShownTiles.{KeysDiffer, shown-inside, shown-outside, shown_same}

@@ -1,20 +1,8 @@
 -- What one stitch that is set changes.
 use Rattle.std.proofs.Common.{◌≡◌, ◌≢◌, ◌⊎◌, ℕ, List, get_or, All, Option, Some, IfSome, IsSome, sym, refl, subst, ◌∙◌, arith, inl, inr}
-use Rattle.std.specs.List.Sorted.{IsPermutation}
-use Rattle.std.proofs.lemmas.Bool.{cases_order}
-use Rattle.std.proofs.lemmas.List.Sorted.{All-permutation}
-use Rattle.std.proofs.lemmas.Option.{same_Some}
-use Rattle.mls_geom.specs.declared.piece.Piece.{Piece}
-use Rattle.mls_tilepool.specs.Pools.{Pool, Changes, tile_at, tile_in, tiles_of}
-use Rattle.mls_tilepool.specs.declared.tile.Tile.{Tile}
+use Rattle.mls_stitch.proofs.Common.{IsPermutation, cases_order, All-permutation, same_Some, Piece, Pool, Changes, tile_at, tile_in, tiles_of, Tile, AreInPlace, AreLed, IsLed, IsStitchedAt, KeepStitches, HoldsAt, beyond, stitch_of, with_stitch, ArePlaced, ChangesOnly, IsPlaced, LaidTile, Stitch, Lb, Bl, Tr, Rt}
 use Rattle.mls_stitch.proofs.PoolChanges.{ChangesOnly-one}
 use Rattle.mls_stitch.proofs.Sides.{placed_tile}
-use Rattle.mls_stitch.specs.Pending.{AreInPlace, AreLed, IsLed, IsStitchedAt, KeepStitches}
-use Rattle.mls_stitch.specs.Stitches.{HoldsAt, beyond, stitch_of, with_stitch}
-use Rattle.mls_stitch.specs.Tilings.{ArePlaced, ChangesOnly, IsPlaced}
-use Rattle.mls_stitch.specs.declared.laid_tile.LaidTile.{LaidTile}
-use Rattle.mls_stitch.specs.declared.stitch.Stitch.{Stitch}
-use Rattle.mls_stitch.specs.declared.stitch.Stitch.TheVariants.{Lb, Bl, Tr, Rt}
 
 -- the stitch that is set, and the others
 stitch_of-with_stitch : (stitch : Stitch) (to : Option ℕ) (tile : Tile) → stitch_of stitch (with_stitch stitch to tile) ≡ to

@@ -1,27 +1,12 @@
 -- Tiles are stitched to fresh ones, one by one: each leads to the last of those up to the square beyond it, and the last of these lead back.
 use Rattle.std.proofs.Common.{◌≡◌, ℕ, ◌+◌, ◌-◌, ◌<◌, ◌≤◌, false, true, List, ◌++◌, length, take, drop, get_or, All, Some, Option, refl, sym, ap, subst, subst₂, ◌∙◌, arith, inl, inr}
-use Rattle.std.specs.List.{AllWithin}
-use Rattle.std.specs.List.Sorted.{IsPermutation}
-use Rattle.std.proofs.lemmas.Bool.{cases_lt, false≢true}
-use Rattle.std.proofs.lemmas.List.{get_or_default}
-use Rattle.std.proofs.lemmas.List.Elements.{All-contains, AllWithin-more, Contains-append_cases, at_read}
-use Rattle.std.proofs.lemmas.List.Sorted.{All-permutation, IsPermutation-refl, IsPermutation-sym, IsPermutation-trans}
-use Rattle.std.proofs.lemmas.Option.{same_Some}
+use Rattle.mls_stitch.proofs.Common.{AllWithin, IsPermutation, cases_lt, false≢true, get_or_default, All-contains, AllWithin-more, Contains-append_cases, at_read, All-permutation, IsPermutation-refl, IsPermutation-sym, IsPermutation-trans, same_Some, Piece, Tile, AreInPlace, AreLed, AreListed, AreSewn, AreSewnAcross, AwaitStitches, IsLed, IsSewn, IsStitchedAt, KeepStitches, HoldsAt, LeadsTo, beyond, stitch_of, AreTiledAs, IsLaid, LaidTile, Stitch, Lb, Bl, Tr, Rt}
 use Rattle.std.proofs.Math.Seq.{drop-append_seam, take-append_seam}
-use Rattle.mls_geom.specs.declared.piece.Piece.{Piece}
-use Rattle.mls_tilepool.specs.declared.tile.Tile.{Tile}
 use Rattle.mls_stitch.proofs.FreshTiles.{entry-keys_of}
 use Rattle.mls_stitch.proofs.SettingStitches.{AreLed-later, IsSet, KeepStitches-refl, KeepStitches-set, KeepStitches-trans, set_is_right}
 use Rattle.mls_stitch.proofs.Sides.{HoldsAt-block, placed_tile}
 use Rattle.mls_stitch.proofs.TilesBeyond.{back_early, back_later, last_has_beyond}
 use Rattle.mls_stitch.specs.Lookups.{BeginUpTo, AreSortedFor, back_of, leads_to}
-use Rattle.mls_stitch.specs.Pending.{AreInPlace, AreLed, AreListed, AreSewn, AreSewnAcross, AwaitStitches, IsLed, IsSewn, IsStitchedAt, KeepStitches}
-use Rattle.mls_stitch.specs.Stitches.{HoldsAt, LeadsTo, beyond, stitch_of}
-use Rattle.mls_stitch.specs.Tilings.{AreTiledAs}
-use Rattle.mls_stitch.specs.Walks.{IsLaid}
-use Rattle.mls_stitch.specs.declared.laid_tile.LaidTile.{LaidTile}
-use Rattle.mls_stitch.specs.declared.stitch.Stitch.{Stitch}
-use Rattle.mls_stitch.specs.declared.stitch.Stitch.TheVariants.{Lb, Bl, Tr, Rt}
 
 -- the tiles while those that lead back are set: those of the last ones before the count are right
 pub record ArePartlyBack (old new : List (ℕ × Tile)) (blocks : ℕ → Option Piece) (stitch : Stitch) (entries : List LaidTile) (rest count : ℕ) : Type 0 where

@@ -1,21 +1,8 @@
 -- What a plane of tiles shows.
 use Rattle.std.proofs.Common.{◌≡◌, ◌≢◌, ℕ, ◌<◌, true, false, Option, Some, None, List, [], ◌∷◌, get_or, All, Any, AllPairs, Contains, ⊎_elim, refl, sym, ap, ◌∙◌, subst, arith}
-use Rattle.std.specs.Option.{option_map}
+use Rattle.mls_stitch.proofs.Common.{option_map, cases_Bool, cond-true, cond-false, eq-eqb, ne_eqb, All-cons, All-contains, All-map, IsRectangleIn, holds, Picture, empty_picture, world, AreLegal, Piece, AllPairs-first, AllPairs-rest, AllPairs-map, Contains-map, Agrees, overlaid_agreed, space_outside, Pool, tile_in, tiles_of, Tile, AreDisjoint, IsPlane, block_at, block_of, blocks_of, shown}
 use Rattle.std.proofs.Math.Path.{fun_ext}
-use Rattle.std.proofs.lemmas.Bool.{cases_Bool, cond-true, cond-false, eq-eqb, ne_eqb}
-use Rattle.std.proofs.lemmas.List.Elements.{All-cons, All-contains, All-map}
-use Rattle.mls_geom.specs.Rects.{IsRectangleIn, holds}
-use Rattle.mls_geom.specs.Pictures.{Picture, empty_picture}
-use Rattle.mls_geom.specs.World.{world, AreLegal}
-use Rattle.mls_geom.specs.declared.piece.Piece.{Piece}
-use Rattle.mls_geom.proofs.Ascending.{AllPairs-first, AllPairs-rest, AllPairs-map, Contains-map}
-use Rattle.mls_geom.proofs.Overlays.{Agrees, overlaid_agreed}
-use Rattle.mls_geom.proofs.PiecePictures.{space_outside}
 use Rattle.mls_tilepool.proofs.TileLists.{tile_in_contains, tiles_of-ascend}
-use Rattle.mls_tilepool.specs.Pools.{Pool, tile_in, tiles_of}
-use Rattle.mls_tilepool.specs.declared.tile.Tile.{Tile}
-use Rattle.mls_stitch.specs.Replacements.{AreDisjoint}
-use Rattle.mls_stitch.specs.Tilings.{IsPlane, block_at, block_of, blocks_of, shown}
 use Rattle.mls_stitch.proofs.Sides.{HoldsAt-block, legal-AreBlocks, one_block, there-IsSomeAnd}
 
 -- no key stands twice

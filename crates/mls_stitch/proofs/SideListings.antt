@@ -1,19 +1,7 @@
 -- The tiles on the left side of an area, from the bottom up.
 use Rattle.std.proofs.Common.{◌≡◌, ◌≢◌, ℕ, ◌<◌, ◌≤◌, true, List, [], ◌∷◌, ◌++◌, length, get_or, Option, All, inl, inr, ap, arith}
-use Rattle.std.proofs.lemmas.Bool.{cases_lt}
-use Rattle.std.proofs.lemmas.List.{length_push}
-use Rattle.std.proofs.lemmas.List.Elements.{All-push}
+use Rattle.mls_stitch.proofs.Common.{cases_lt, length_push, All-push, Rect, IsRectangleIn, holds, world, Piece, holds_between, between_holds, IsFound, IsSideListedTo, AreBlocks, IsPlane, block_at, IsLaidAt, LaidTile, Tile}
 use Rattle.std.proofs.lemmas.List.Quantifiers.{Any-push, all_pairs_push}
-use Rattle.mls_geom.specs.Rects.{Rect, IsRectangleIn, holds}
-use Rattle.mls_geom.specs.World.{world}
-use Rattle.mls_geom.specs.declared.piece.Piece.{Piece}
-use Rattle.mls_geom.proofs.Holds.{holds_between, between_holds}
-use Rattle.mls_stitch.specs.Areas.{IsFound}
-use Rattle.mls_stitch.specs.Enumerations.{IsSideListedTo}
-use Rattle.mls_stitch.specs.Tilings.{AreBlocks, IsPlane, block_at}
-use Rattle.mls_stitch.specs.Walks.{IsLaidAt}
-use Rattle.mls_stitch.specs.declared.laid_tile.LaidTile.{LaidTile}
-use Rattle.mls_tilepool.specs.declared.tile.Tile.{Tile}
 use Rattle.mls_stitch.proofs.ListedTiles.{length-le-AreLaid}
 use Rattle.mls_stitch.proofs.Listings.{any_push, found_with, same_tile}
 

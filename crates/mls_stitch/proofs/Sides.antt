@@ -1,18 +1,7 @@
 -- The sides of tiles: a tile's right side is the left side of the tile to which one stitch leads, and its top the bottom of another.
 use Rattle.std.proofs.Common.{◌≡◌, ℕ, ◌-◌, ◌<◌, ◌≤◌, true, false, Option, Some, None, List, inl, inr, refl, sym, ap, ◌∙◌, subst, arith}
-use Rattle.std.specs.Option.{IsSomeAnd, option_map}
+use Rattle.mls_stitch.proofs.Common.{IsSomeAnd, option_map, both_ways, cases_lt, same_Some, Rect, Point, IsRectangleIn, holds, world, Piece, holds_between, between_holds, tile_in, Tile, HoldsAt, LeadsTo, beyond, AreBlocks, AreTiledAs, ArePlaced, IsPlaced, IsPlane, block_at, block_of, bottom_beyond, left_beyond, Tr, Rt}
 use Rattle.std.proofs.Math.Path.{fun_ext}
-use Rattle.std.proofs.lemmas.Bool.{both_ways, cases_lt}
-use Rattle.std.proofs.lemmas.Option.{same_Some}
-use Rattle.mls_geom.specs.Rects.{Rect, Point, IsRectangleIn, holds}
-use Rattle.mls_geom.specs.World.{world}
-use Rattle.mls_geom.specs.declared.piece.Piece.{Piece}
-use Rattle.mls_geom.proofs.Holds.{holds_between, between_holds}
-use Rattle.mls_tilepool.specs.Pools.{tile_in}
-use Rattle.mls_tilepool.specs.declared.tile.Tile.{Tile}
-use Rattle.mls_stitch.specs.Stitches.{HoldsAt, LeadsTo, beyond}
-use Rattle.mls_stitch.specs.Tilings.{AreBlocks, AreTiledAs, ArePlaced, IsPlaced, IsPlane, block_at, block_of, bottom_beyond, left_beyond}
-use Rattle.mls_stitch.specs.declared.stitch.Stitch.TheVariants.{Tr, Rt}
 
 -- the value that is there, with what holds of it
 pub there-IsSomeAnd : {X : Type 0} (o : Option X) (P : X → Type 0) → IsSomeAnd o P → (x : X) × (o ≡ Some x) × P x

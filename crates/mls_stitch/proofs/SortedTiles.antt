@@ -1,17 +1,8 @@
 -- Listed tiles, sorted by their keys, with no key twice.
 use Rattle.std.proofs.Common.{◌≡◌, ◌≢◌, ℕ, ◌<◌, ◌≤◌, ◌==◌, Bool, List, [], ◌∷◌, get_or, All, AllPairs, Contains, IsPermutation, Result, Ok, Err, is_err, not, inl, inr, refl, sym, ap, ◌∙◌, subst, eqb-true, zero, suc, arith}
-use Rattle.std.specs.List.{dedup, dedup_from, list_any}
+use Rattle.mls_stitch.proofs.Common.{dedup, dedup_from, list_any, IsBinarySearchResult, IsNonDecreasing, IsNonDecreasingBy, cases_Bool, cases_lt, cond-false, cond-true, eqb-false, get_or_default, All-cons, All-weaker, Contains-get_or, Contains-permutation, IsPermutation-sym, searched, Contains-first, Contains-map, Contains-rest, keys_of, KeepsKeys, LaidTile}
 use Rattle.std.specs.Ordering.{nat_cmp}
-use Rattle.std.specs.List.Sorted.{IsBinarySearchResult, IsNonDecreasing, IsNonDecreasingBy}
-use Rattle.std.proofs.lemmas.Bool.{cases_Bool, cases_lt, cond-false, cond-true, eqb-false}
-use Rattle.std.proofs.lemmas.List.{get_or_default}
-use Rattle.std.proofs.lemmas.List.Elements.{All-cons, All-weaker, Contains-get_or}
 use Rattle.std.proofs.lemmas.List.Kept.{AllPairs-cons, Contains-from_dedup}
-use Rattle.std.proofs.lemmas.List.Sorted.{Contains-permutation, IsPermutation-sym, searched}
-use Rattle.mls_geom.proofs.Ascending.{Contains-first, Contains-map, Contains-rest}
-use Rattle.mls_stitch.specs.Pending.{keys_of}
-use Rattle.mls_stitch.specs.Placing.{KeepsKeys}
-use Rattle.mls_stitch.specs.declared.laid_tile.LaidTile.{LaidTile}
 use Rattle.mls_stitch.proofs.FreshTiles.{Contains-first_or_rest, list_any-Contains, list_any-absent, nothing_in_nil}
 
 -- the tiles have one key

@@ -1,13 +1,7 @@
 -- What a split and a join make of the calls that they rest on.
 use Rattle.std.proofs.Common.{◌≡◌, ℕ, List, [], ◌∷◌, Option, Some, IsSomeAnd, IfSome, sym, ap, ◌∙◌, subst}
-use Rattle.mls_geom.specs.declared.piece.Piece.{Piece}
-use Rattle.mls_tilepool.specs.declared.tile.Tile.{Tile}
-use Rattle.mls_stitch.specs.Replacements.{Replaces}
+use Rattle.mls_stitch.proofs.Common.{Piece, Tile, Replaces, HoldsAt, IsPlane, block_at, laid_at, LaidTile}
 use Rattle.mls_stitch.specs.Splits.{IsCutAt, JoinAlong, Joins, Splits, first_part, joined_along, second_part}
-use Rattle.mls_stitch.specs.Stitches.{HoldsAt}
-use Rattle.mls_stitch.specs.Tilings.{IsPlane, block_at}
-use Rattle.mls_stitch.specs.Walks.{laid_at}
-use Rattle.mls_stitch.specs.declared.laid_tile.LaidTile.{LaidTile}
 use Rattle.mls_stitch.specs.declared.split.Axis.{Axis}
 use Rattle.mls_stitch.proofs.CutBlocks.{AreJoined}
 use Rattle.mls_stitch.proofs.Neighbours.{laid_read}

@@ -1,21 +1,8 @@
 -- Splits and joins are replacements that leave the picture as it was.
 use Rattle.std.proofs.Common.{◌≡◌, ◌≢◌, ◌⊎◌, ℕ, true, List, [], ◌∷◌, slice_get, Some, None, All, AllPairs, Contains, inl, inr, refl, sym, ap, ◌∙◌, subst, arith}
-use Rattle.std.specs.List.{AllZip}
+use Rattle.mls_stitch.proofs.Common.{AllZip, All-cons, All-nil, same_Some, Point, IsRectangleIn, holds, world, Piece, Contains-first, Contains-rest, between_holds, Agrees, overlaid_stays, tile_in, Tile, Replaces, HoldsAt, IsPlane, block_at, shown}
 use Rattle.std.proofs.Math.Path.{fun_ext}
-use Rattle.std.proofs.lemmas.List.Elements.{All-cons, All-nil}
-use Rattle.std.proofs.lemmas.Option.{same_Some}
-use Rattle.mls_geom.specs.Rects.{Point, IsRectangleIn, holds}
-use Rattle.mls_geom.specs.World.{world}
-use Rattle.mls_geom.specs.declared.piece.Piece.{Piece}
-use Rattle.mls_geom.proofs.Ascending.{Contains-first, Contains-rest}
-use Rattle.mls_geom.proofs.Holds.{between_holds}
-use Rattle.mls_geom.proofs.Overlays.{Agrees, overlaid_stays}
-use Rattle.mls_tilepool.specs.Pools.{tile_in}
-use Rattle.mls_tilepool.specs.declared.tile.Tile.{Tile}
-use Rattle.mls_stitch.specs.Replacements.{Replaces}
 use Rattle.mls_stitch.specs.Splits.{IsCutAt, Joins, Splits, first_part, joined_along, right_part, second_part, upper_of}
-use Rattle.mls_stitch.specs.Stitches.{HoldsAt}
-use Rattle.mls_stitch.specs.Tilings.{IsPlane, block_at, shown}
 use Rattle.mls_stitch.specs.declared.split.Axis.{Axis}
 use Rattle.mls_stitch.specs.declared.split.Axis.TheVariants.{X, Y}
 use Rattle.mls_stitch.proofs.CutBlocks.{AreJoined, AreParts, differ_joined, parts_along, parts_joined}

@@ -1,25 +1,11 @@
 -- The tile beyond another is the last one that begins at the square beyond it or before: the tile that has that square begins on its line, and every
 -- tile that begins in between would begin on a square of that one. The tiles whose stitch leads back are the last of those that begin there or before.
 use Rattle.std.proofs.Common.{◌≡◌, ℕ, ◌-◌, ◌<◌, ◌≤◌, IsTrue, true, false, nat_le, List, length, get_or, All, Option, Some, le_refl, sym, ap, ◌∙◌, arith, inl, inr}
-use Rattle.std.specs.List.Sorted.{IsPartitionedBy, IsSortedByKey}
+use Rattle.mls_stitch.proofs.Common.{IsPartitionedBy, IsSortedByKey, cases_lt, false_from_ne_true, false≢true, nat_tests, get_or_default, ranks_by, sorted_far, Rect, Point, IsRectangleIn, holds, world, Piece, holds_between, between_holds, beyond, AreBlocks, IsLaid, LaidTile, Stitch, Lb, Bl, Tr, Rt}
 use Rattle.std.specs.Ordering.{is_lt, nat_cmp}
-use Rattle.std.proofs.lemmas.Bool.{cases_lt, false_from_ne_true, false≢true}
-use Rattle.std.proofs.lemmas.Bool.Decides.{nat_tests}
 use Rattle.std.proofs.lemmas.Cmp.{nat_cmp_total}
-use Rattle.std.proofs.lemmas.List.{get_or_default}
-use Rattle.std.proofs.lemmas.List.Sorted.{ranks_by, sorted_far}
-use Rattle.mls_geom.specs.Rects.{Rect, Point, IsRectangleIn, holds}
-use Rattle.mls_geom.specs.World.{world}
-use Rattle.mls_geom.specs.declared.piece.Piece.{Piece}
-use Rattle.mls_geom.proofs.Holds.{holds_between, between_holds}
 use Rattle.mls_stitch.proofs.Sides.{left_neighbour, legal-AreBlocks, lower_neighbour, one_block, right_neighbour, upper_neighbour}
 use Rattle.mls_stitch.specs.Lookups.{BeginUpTo, AreSortedFor, Place, back_of, first_square, from_end, is_up_to, leads_to, place_beyond, rank_of, start_of}
-use Rattle.mls_stitch.specs.Stitches.{beyond}
-use Rattle.mls_stitch.specs.Tilings.{AreBlocks}
-use Rattle.mls_stitch.specs.Walks.{IsLaid}
-use Rattle.mls_stitch.specs.declared.laid_tile.LaidTile.{LaidTile}
-use Rattle.mls_stitch.specs.declared.stitch.Stitch.{Stitch}
-use Rattle.mls_stitch.specs.declared.stitch.Stitch.TheVariants.{Lb, Bl, Tr, Rt}
 
 -- the rectangle has the square
 abbrev Has : Rect → Point → Type 0

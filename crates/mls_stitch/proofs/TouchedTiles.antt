@@ -1,22 +1,7 @@
 -- The tiles that pieces touch, gathered from the search round one piece after another, or round all.
 use Rattle.std.proofs.Common.{◌≡◌, ◌≢◌, ℕ, true, List, [], ◌∷◌, ◌++◌, map, length, ◌≤◌, AllPairs, Any, Contains, Option, inl, inr, refl, sym, ◌∙◌, subst, arith}
-use Rattle.std.proofs.lemmas.Bool.{or_cases}
-use Rattle.std.proofs.lemmas.Bool.Decides.{nat_tests}
-use Rattle.std.proofs.lemmas.List.Elements.{All-append, All-contains, All-nil, All-push, Contains-append_left, Contains-append_right}
+use Rattle.mls_stitch.proofs.Common.{or_cases, nat_tests, All-append, All-contains, All-nil, All-push, Contains-append_left, Contains-append_right, is_touched, touches, Rect, IsWithin, world, Piece, Contains-first, Contains-map, Tile, AreInArea, ListTouched, AreMet, EnclosePieces, HasTouched, keys_of, KeepsKeys, IsPlane, block_at, IsLaid, LaidTile}
 use Rattle.std.proofs.lemmas.List.Folds.{Any-from_list_any, list_any-append, list_any-from_Any}
-use Rattle.mls_geom.specs.Locality.{is_touched, touches}
-use Rattle.mls_geom.specs.Rects.{Rect, IsWithin}
-use Rattle.mls_geom.specs.World.{world}
-use Rattle.mls_geom.specs.declared.piece.Piece.{Piece}
-use Rattle.mls_geom.proofs.Ascending.{Contains-first, Contains-map}
-use Rattle.mls_tilepool.specs.declared.tile.Tile.{Tile}
-use Rattle.mls_stitch.specs.Areas.{AreInArea, ListTouched}
-use Rattle.mls_stitch.specs.Gathering.{AreMet, EnclosePieces, HasTouched}
-use Rattle.mls_stitch.specs.Pending.{keys_of}
-use Rattle.mls_stitch.specs.Placing.{KeepsKeys}
-use Rattle.mls_stitch.specs.Tilings.{IsPlane, block_at}
-use Rattle.mls_stitch.specs.Walks.{IsLaid}
-use Rattle.mls_stitch.specs.declared.laid_tile.LaidTile.{LaidTile}
 use Rattle.mls_stitch.proofs.FreshTiles.{Contains-first_or_rest, Contains-from_map, nothing_in_nil}
 use Rattle.mls_stitch.proofs.Gathered.{IsRound, both_true, touched_met}
 use Rattle.mls_stitch.proofs.ListedTiles.{keys-AreInArea, length-le-AreLaid, listed_there}

@@ -1,13 +1,6 @@
 -- A tile that comes in at the head of its owner's chain.
 use Rattle.std.proofs.Common.{◌≡◌, ◌≢◌, ℕ, ◌+◌, ◌<◌, Bool, true, false, eqb, cond, List, ◌∷◌, get_or, Option, Some, None, refl, sym, ap, ◌∙◌, inl, inr, arith, Contains}
-use Rattle.std.specs.Option.{option_map}
-use Rattle.std.proofs.lemmas.Bool.{cases_eq, cases_Bool, cond-true, cond-false, eq-eqb, ne_eqb, false_from_ne_true}
-use Rattle.slab.proofs.SlabLemmas.{Contains-cons}
-use Rattle.mls_tilepool.specs.Pools.{owned}
-use Rattle.mls_tilepool.specs.Chains.{IsRow, held_of, links_to}
-use Rattle.mls_tilepool.specs.declared.chain.Place.{Place}
-use Rattle.mls_tilepool.specs.declared.chain.Row.{Row}
-use Rattle.mls_tilepool.specs.declared.tile.Tile.{Tile}
+use Rattle.mls_tilepool.proofs.Common.{option_map, cases_eq, cases_Bool, cond-true, cond-false, eq-eqb, ne_eqb, false_from_ne_true, Contains-cons, owned, IsRow, held_of, links_to, Place, Row, Tile}
 use Rattle.mls_tilepool.proofs.Chains.{IsChain-head, IsChain-owner, links_to-true, option_map-some}
 use Rattle.mls_tilepool.proofs.Relinking.{IsChain-relinked, linked, linked-false, with_previous}
 use Rattle.mls_tilepool.proofs.PoolChanges.{owned_count-change, owned-own, tile_count}

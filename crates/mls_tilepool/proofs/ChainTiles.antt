@@ -1,11 +1,6 @@
 -- The tiles of a chain.
 use Rattle.std.proofs.Common.{◌≡◌, ℕ, suc, eqb, List, [], ◌∷◌, length, get_or, Option, Some, None, refl, sym, ap, ◌∙◌, inl, inr, arith, Contains}
-use Rattle.std.specs.Option.{option_map_or}
-use Rattle.std.proofs.lemmas.Bool.{cases_eq, cond-true, cond-false, eq-eqb, ne_eqb}
-use Rattle.slab.proofs.SlabLemmas.{Contains-cons, Contains-cons_cases}
-use Rattle.mls_tilepool.specs.Pools.{owned, tile_in}
-use Rattle.mls_tilepool.specs.Chains.{IsChain, held_of, tiles_from}
-use Rattle.mls_tilepool.specs.declared.chain.Place.{Place}
+use Rattle.mls_tilepool.proofs.Common.{option_map_or, cases_eq, cond-true, cond-false, eq-eqb, ne_eqb, Contains-cons, Contains-cons_cases, owned, tile_in, IsChain, held_of, tiles_from, Place}
 
 -- the first tile of a chain, and the others
 tiles_from-first :

@@ -1,10 +1,6 @@
 -- Chains of places: what a change of links, tiles or owners leaves of them.
 use Rattle.std.proofs.Common.{◌≡◌, ◌≢◌, ℕ, true, false, List, [], ◌∷◌, get_or, Option, Some, None, refl, sym, ap, ◌∙◌, ◌⊎◌, inl, inr, arith, Contains}
-use Rattle.std.specs.Option.{option_map}
-use Rattle.std.proofs.lemmas.Bool.{eq-eqb, eqb-true, ne_eqb, false≢true}
-use Rattle.slab.proofs.SlabLemmas.{Contains-cons, Contains-cons_cases}
-use Rattle.mls_tilepool.specs.Chains.{IsChain, links_to}
-use Rattle.mls_tilepool.specs.declared.chain.Place.{Place}
+use Rattle.mls_tilepool.proofs.Common.{option_map, eq-eqb, eqb-true, ne_eqb, false≢true, Contains-cons, Contains-cons_cases, IsChain, links_to, Place}
 
 -- a place without its tile
 abbrev pub links_of : Place → ℕ × Option ℕ × Option ℕ

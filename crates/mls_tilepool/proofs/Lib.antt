@@ -1,6 +1,7 @@
 pub mod Adding
 pub mod ChainTiles
 pub mod Chains
+pub mod Common
 pub mod OwnerCalls
 pub mod PoolChanges
 pub mod PoolSteps

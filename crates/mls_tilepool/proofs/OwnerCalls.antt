@@ -1,10 +1,6 @@
 -- What reserving for a new owner, and releasing an owner, leave of a pool.
 use Rattle.std.proofs.Common.{◌≡◌, ℕ, ◌+◌, ◌-◌, ◌≤◌, [], get_or, Option, Some, None, is_some, refl, sym, ap, ◌∙◌, arith}
-use Rattle.slab.specs.Slab.{Slab, Updates, get}
-use Rattle.mls_tilepool.specs.Pools.{ChangesOnly, Pool, Reserves, owned, reserved, tiles_of, unreserved}
-use Rattle.mls_tilepool.specs.Chains.{IsPool, held_of, pool_of, room_in}
-use Rattle.mls_tilepool.specs.declared.chain.Place.{Place}
-use Rattle.mls_tilepool.specs.declared.chain.Row.{Row}
+use Rattle.mls_tilepool.proofs.Common.{Slab, Updates, get, ChangesOnly, Pool, Reserves, owned, reserved, tiles_of, unreserved, IsPool, held_of, pool_of, room_in, Place, Row}
 use Rattle.mls_tilepool.proofs.PoolChanges.{held_at, owned-none, room_at, tiles_of-none, tiles_of-same}
 use Rattle.mls_tilepool.proofs.PoolSteps.{IsPool-released, IsPool-reserved, none_owned, room_reserved}
 use Rattle.mls_tilepool.proofs.PoolViews.{unreserved-pool}

@@ -1,17 +1,8 @@
 -- What callers see of a pool, as its slots change.
 use Rattle.std.proofs.Common.{◌≡◌, ◌≢◌, ℕ, ◌+◌, eqb, cond, List, [], ◌∷◌, map, length, get_or, Option, Some, None, is_some, refl, sym, ap, ◌∙◌, inl, inr, arith, IsSome}
-use Rattle.std.specs.List.{sum_by}
-use Rattle.std.specs.Option.{option_map_or}
-use Rattle.std.proofs.lemmas.Bool.{cases_eq, cond-true, cond-false, eq-eqb, ne_eqb}
+use Rattle.mls_tilepool.proofs.Common.{sum_by, option_map_or, cases_eq, cond-true, cond-false, eq-eqb, ne_eqb, entries_from, length-entries_from, Changes, Pool, count_of, owned, reserved, tile_at, tile_in, tiles_of, held_of, owned_slots, room_in, rooms_sum, Place, Row, Tile}
 use Rattle.std.proofs.lemmas.List.Sums.{sum_by-cons}
 use Rattle.std.proofs.Math.ListN.{get_or-map}
-use Rattle.slab.specs.Slab.{entries_from}
-use Rattle.slab.proofs.SlabLemmas.{length-entries_from}
-use Rattle.mls_tilepool.specs.Pools.{Changes, Pool, count_of, owned, reserved, tile_at, tile_in, tiles_of}
-use Rattle.mls_tilepool.specs.Chains.{held_of, owned_slots, room_in, rooms_sum}
-use Rattle.mls_tilepool.specs.declared.chain.Place.{Place}
-use Rattle.mls_tilepool.specs.declared.chain.Row.{Row}
-use Rattle.mls_tilepool.specs.declared.tile.Tile.{Tile}
 use Rattle.mls_tilepool.proofs.Slots.{entries_from-same, sum_by-change}
 use Rattle.mls_tilepool.proofs.TileLists.{tile_at-place}
 

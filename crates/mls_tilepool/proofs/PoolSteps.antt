@@ -1,15 +1,6 @@
 -- What keeps a pool sound: one owner's row and places change, an owner comes, an owner goes.
 use Rattle.std.proofs.Common.{◌≡◌, ◌≢◌, ℕ, ◌+◌, ◌-◌, ◌<◌, ◌≤◌, eqb, cond, [], length, Option, Some, None, is_some, refl, sym, ap, ◌∙◌, inl, inr, arith}
-use Rattle.std.specs.List.{sum_by}
-use Rattle.std.specs.Option.{option_map, option_map_or}
-use Rattle.std.proofs.lemmas.Bool.{cases_eq, cond-true, cond-false, eq-eqb, ne_eqb}
-use Rattle.slab.specs.Slab.{Slab, ContainsKey, HasRoomFor, Updates, entries_from, get, slab_len, with_value}
-use Rattle.slab.proofs.SlabLemmas.{Updates-with_value}
-use Rattle.mls_tilepool.specs.Pools.{owned}
-use Rattle.mls_tilepool.specs.Chains.{IsPool, IsRow, held_of, owned_slots}
-use Rattle.mls_tilepool.specs.declared.chain.Place.{Place}
-use Rattle.mls_tilepool.specs.declared.chain.Row.{Row}
-use Rattle.mls_tilepool.specs.declared.tile.Tile.{Tile}
+use Rattle.mls_tilepool.proofs.Common.{sum_by, option_map, option_map_or, cases_eq, cond-true, cond-false, eq-eqb, ne_eqb, Slab, ContainsKey, HasRoomFor, Updates, entries_from, get, slab_len, with_value, Updates-with_value, owned, IsPool, IsRow, held_of, owned_slots, Place, Row, Tile}
 use Rattle.mls_tilepool.proofs.Chains.{IsChain-same, links_of}
 use Rattle.mls_tilepool.proofs.Slots.{entries_from-same, sum_by-change, sum_by-gap, sum_by-le}
 use Rattle.mls_tilepool.proofs.PoolChanges.{owned_at, owned_count-change, owned-own, tile_count}

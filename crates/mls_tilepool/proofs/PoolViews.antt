@@ -1,12 +1,7 @@
 -- What callers see of a sound pool.
 use Rattle.std.proofs.Common.{◌≡◌, ◌≢◌, ℕ, ◌-◌, eqb, List, [], ◌∷◌, map, length, set, Option, Some, None, IsSome, IfSome, is_some, refl, sym, ap, ◌∙◌, inl, inr, arith, Contains}
-use Rattle.std.proofs.lemmas.Bool.{cases_eq, cond-true, cond-false, eq-eqb, ne_eqb}
+use Rattle.mls_tilepool.proofs.Common.{cases_eq, cond-true, cond-false, eq-eqb, ne_eqb, Slab, ContainsKey, get, with_value, IsOwner, ListsTiles, Pool, count_of, owned, room_of, tile_at, tile_in, tiles_of, unreserved, IsChain, IsPool, held_of, pool_of, room_in, tiles_from, Place, Row}
 use Rattle.std.proofs.lemmas.List.{map-set, set-get_or}
-use Rattle.slab.specs.Slab.{Slab, ContainsKey, get, with_value}
-use Rattle.mls_tilepool.specs.Pools.{IsOwner, ListsTiles, Pool, count_of, owned, room_of, tile_at, tile_in, tiles_of, unreserved}
-use Rattle.mls_tilepool.specs.Chains.{IsChain, IsPool, held_of, pool_of, room_in, tiles_from}
-use Rattle.mls_tilepool.specs.declared.chain.Place.{Place}
-use Rattle.mls_tilepool.specs.declared.chain.Row.{Row}
 use Rattle.mls_tilepool.proofs.Chains.{IsChain-head, IsChain-owner}
 use Rattle.mls_tilepool.proofs.ChainTiles.{length-tiles_from, tile_in-tiles_from, tile_in-tiles_from_none}
 use Rattle.mls_tilepool.proofs.PoolChanges.{count_of-owned, owned-some, reserved-rows, room_at, tile_at-held}

@@ -1,10 +1,6 @@
 -- Chains of places while a tile comes in at the head or goes out anywhere.
 use Rattle.std.proofs.Common.{◌≡◌, ◌≢◌, ℕ, ◌+◌, Bool, true, false, eqb, cond, List, [], ◌∷◌, length, get_or, Option, Some, None, refl, sym, ap, ◌∙◌, inl, inr, arith, Contains}
-use Rattle.std.specs.Option.{option_map}
-use Rattle.std.proofs.lemmas.Bool.{cases_eq, cond-true, cond-false, eq-eqb, ne_eqb, false_from_ne_true}
-use Rattle.slab.proofs.SlabLemmas.{Contains-cons, Contains-cons_cases}
-use Rattle.mls_tilepool.specs.Chains.{IsChain, links_to}
-use Rattle.mls_tilepool.specs.declared.chain.Place.{Place}
+use Rattle.mls_tilepool.proofs.Common.{option_map, cases_eq, cond-true, cond-false, eq-eqb, ne_eqb, false_from_ne_true, Contains-cons, Contains-cons_cases, IsChain, links_to, Place}
 use Rattle.mls_tilepool.proofs.Chains.{Contains-head, links_of, links_to-same, links_to-other, links_to-true, IsChain-same, IsChain-next, IsChain-previous}
 
 -- a place with another link back, or another link onward

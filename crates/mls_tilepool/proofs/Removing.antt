@@ -1,12 +1,6 @@
 -- A tile that goes out of its owner's chain.
 use Rattle.std.proofs.Common.{◌≡◌, ◌≢◌, ℕ, ◌-◌, ◌≤◌, Bool, true, false, eqb, cond, List, [], ◌∷◌, get_or, Option, Some, None, refl, sym, ap, ◌∙◌, ◌⊎◌, inl, inr, arith, Contains}
-use Rattle.std.specs.Option.{option_map}
-use Rattle.std.proofs.lemmas.Bool.{cases_eq, cases_Bool, cond-true, cond-false, eq-eqb, ne_eqb}
-use Rattle.slab.proofs.SlabLemmas.{Contains-cons_cases}
-use Rattle.mls_tilepool.specs.Pools.{owned}
-use Rattle.mls_tilepool.specs.Chains.{IsChain, IsRow, held_of, links_to}
-use Rattle.mls_tilepool.specs.declared.chain.Place.{Place}
-use Rattle.mls_tilepool.specs.declared.chain.Row.{Row}
+use Rattle.mls_tilepool.proofs.Common.{option_map, cases_eq, cases_Bool, cond-true, cond-false, eq-eqb, ne_eqb, Contains-cons_cases, owned, IsChain, IsRow, held_of, links_to, Place, Row}
 use Rattle.mls_tilepool.proofs.Chains.{IsChain-next, IsChain-owner, IsChain-previous, links_to-other, links_to-same, links_to-true, option_map-some}
 use Rattle.mls_tilepool.proofs.Relinking.{Contains-without, IsChain-unlinked, length-without, linked, linked-false, unlinked, with_next, with_previous, without}
 use Rattle.mls_tilepool.proofs.PoolChanges.{owned_count-change, owned-own, tile_count}

@@ -1,11 +1,6 @@
 -- Rows of owners while places change.
 use Rattle.std.proofs.Common.{◌≡◌, ◌≢◌, ℕ, eqb, List, length, get_or, Option, Some, None, refl, sym, ap, ◌∙◌, ◌⊎◌, inl, inr}
-use Rattle.std.proofs.lemmas.Bool.{cond-false, ne_eqb}
-use Rattle.std.specs.Option.{option_map}
-use Rattle.mls_tilepool.specs.Pools.{owned}
-use Rattle.mls_tilepool.specs.Chains.{IsRow, held_of, owned_slots}
-use Rattle.mls_tilepool.specs.declared.chain.Place.{Place}
-use Rattle.mls_tilepool.specs.declared.chain.Row.{Row}
+use Rattle.mls_tilepool.proofs.Common.{cond-false, ne_eqb, option_map, owned, IsRow, held_of, owned_slots, Place, Row}
 use Rattle.mls_tilepool.proofs.Slots.{entries_from-same}
 use Rattle.mls_tilepool.proofs.Chains.{IsChain-owner, IsChain-same, links_of, option_map-some}
 use Rattle.mls_tilepool.proofs.PoolChanges.{owned_at}

@@ -1,8 +1,7 @@
 -- Lists of slots, each with a value or none: what follows where two of them agree at each key, or at each key but one.
 use Rattle.std.proofs.Common.{◌≡◌, ◌≢◌, ℕ, zero, suc, ◌+◌, ◌≤◌, List, [], ◌∷◌, get_or, Option, Some, None, refl, sym, ◌∙◌, arith}
-use Rattle.std.specs.List.{sum_by}
+use Rattle.mls_tilepool.proofs.Common.{sum_by, entries_from}
 use Rattle.std.proofs.lemmas.List.Sums.{sum_by-cons}
-use Rattle.slab.specs.Slab.{entries_from}
 
 -- a sum over nothing but empty slots
 sum_by-empty : {X : Type 0} (f : Option X → ℕ) (slots : List (Option X)) → ((key : ℕ) → f (get_or slots key None) ≡ 0) → sum_by f slots ≡ 0

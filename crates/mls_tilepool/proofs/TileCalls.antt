@@ -1,13 +1,7 @@
 -- What adding, replacing and removing a tile leave of a pool.
 use Rattle.std.proofs.Common.{◌≡◌, ◌≢◌, ℕ, ◌+◌, ◌-◌, ◌<◌, ◌≤◌, eqb, cond, List, set, Option, Some, None, refl, sym, ap, ◌∙◌, inl, inr, arith}
-use Rattle.std.proofs.lemmas.Bool.{cases_eq, cond-true, cond-false, eq-eqb, ne_eqb}
+use Rattle.mls_tilepool.proofs.Common.{cases_eq, cond-true, cond-false, eq-eqb, ne_eqb, Slab, Updates, get, slab_len, with_value, Changes, count_of, owned, IsPool, Links, held_of, pool_of, Place, Row, Tile}
 use Rattle.std.proofs.lemmas.List.{set-get_or}
-use Rattle.slab.specs.Slab.{Slab, Updates, get, slab_len, with_value}
-use Rattle.mls_tilepool.specs.Pools.{Changes, count_of, owned}
-use Rattle.mls_tilepool.specs.Chains.{IsPool, Links, held_of, pool_of}
-use Rattle.mls_tilepool.specs.declared.chain.Place.{Place}
-use Rattle.mls_tilepool.specs.declared.chain.Row.{Row}
-use Rattle.mls_tilepool.specs.declared.tile.Tile.{Tile}
 use Rattle.mls_tilepool.proofs.Adding.{AddsPlace, added_held, added_here, added_row, added_stay, fresh_place}
 use Rattle.mls_tilepool.proofs.PoolChanges.{Changes-from_places, held_at, owned-other, owned-own}
 use Rattle.mls_tilepool.proofs.PoolSteps.{IsPool-written, get-with_value, get-with_value_other, retiled_row, retiled_stay, slab_len-with_value}

@@ -1,12 +1,7 @@
 -- Lists of tiles with their keys, and what stands under a key.
 use Rattle.std.proofs.Common.{◌≡◌, ℕ, zero, suc, ◌+◌, ◌<◌, ◌≤◌, eqb, List, [], ◌∷◌, map, length, get_or, Option, Some, None, refl, sym, ap, ◌∙◌, inl, inr, zero-add, arith}
-use Rattle.std.specs.List.{AllPairs, Contains}
-use Rattle.std.proofs.lemmas.Bool.{cases_eq, cond-true, cond-false, eq-eqb, ne_eqb}
+use Rattle.mls_tilepool.proofs.Common.{AllPairs, Contains, cases_eq, cond-true, cond-false, eq-eqb, ne_eqb, entries_from, Contains-cons, Held, Pool, owned, tiles_of, tile_in, tile_at, Tile}
 use Rattle.std.proofs.Math.ListN.{get_or-map}
-use Rattle.slab.specs.Slab.{entries_from}
-use Rattle.slab.proofs.SlabLemmas.{Contains-cons}
-use Rattle.mls_tilepool.specs.Pools.{Held, Pool, owned, tiles_of, tile_in, tile_at}
-use Rattle.mls_tilepool.specs.declared.tile.Tile.{Tile}
 
 -- a tile found under a key stands in the list
 pub tile_in_contains : (list : List (ℕ × Tile)) (key : ℕ) (tile : Tile) → tile_in list key ≡ Some tile → Contains list (key, tile)

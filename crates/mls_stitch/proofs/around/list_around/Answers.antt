@@ -1,9 +1,6 @@
 -- Round the squares that are lost, or round all touched tiles.
 use Rattle.std.proofs.Common.{[], length, ap, arith}
-use Rattle.mls_tilepool.specs.Pools.{tiles_of}
-use Rattle.mls_stitch.specs.Placing.{IsLost, Surround}
-use Rattle.mls_stitch.specs.Replacements.{IsHeld}
-use Rattle.mls_stitch.specs.Tilings.{block_at}
+use Rattle.mls_stitch.proofs.Common.{tiles_of, IsLost, Surround, IsHeld, block_at}
 use Rattle.mls_stitch.proofs.AroundTiles.{Surround-fewer, Surround-keeps, Surround-keys, Surround-met, held_within, lost_all, lost_held, lost_none}
 use Rattle.mls_stitch.proofs.ListedTiles.{length-le-AreLaid}
 use Rattle.mls_stitch.proofs.around.list_around.Goals as goal

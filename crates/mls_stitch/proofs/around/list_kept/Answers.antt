@@ -1,8 +1,6 @@
 -- The keys ascend, so the search fails where a tile's key isn't listed, and the tile is added there.
 use Rattle.std.proofs.Common.{◌≡◌, ◌==◌, ℕ, not, take, ap, sym, ◌∙◌, Vec, Global, vec_len, vec_capacity, arith}
-use Rattle.std.specs.List.{list_any}
-use Rattle.std.proofs.lemmas.List.{take_all}
-use Rattle.mls_stitch.specs.declared.laid_tile.LaidTile.{LaidTile}
+use Rattle.mls_stitch.proofs.Common.{list_any, take_all, LaidTile}
 use Rattle.mls_stitch.proofs.AroundTiles.{is_unlisted, unlisted_more, unlisted_skip}
 use Rattle.mls_stitch.proofs.SortedTiles.{not_found}
 use Rattle.mls_stitch.proofs.around.list_kept.Goals as goal

@@ -1,7 +1,6 @@
 -- The keys are listed as they come, and then sorted.
 use Rattle.std.proofs.Common.{◌≡◌, ◌+◌, ◌++◌, ◌∷◌, [], take, ap, refl, sym, ◌∙◌, arith}
-use Rattle.std.proofs.lemmas.List.{take_all, take_more}
-use Rattle.std.proofs.lemmas.List.Sorted.{Contains-permutation, IsNonDecreasingBy-from_sort, IsPermutation-sym}
+use Rattle.mls_stitch.proofs.Common.{take_all, take_more, Contains-permutation, IsNonDecreasingBy-from_sort, IsPermutation-sym}
 use Rattle.mls_stitch.proofs.around.list_keys.Goals as goal
 
 pub loop-id-init : goal.loop-id-init

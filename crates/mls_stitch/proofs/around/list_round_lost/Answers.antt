@@ -1,14 +1,6 @@
 -- Round the parts that each touched tile loses.
 use Rattle.std.proofs.Common.{◌≡◌, ◌≤◌, ◌+◌, ◌++◌, ◌∷◌, [], take, get_or, length, inl, inr, refl, ap, sym, ◌∙◌, subst, Vec, Global, vec_capacity, arith}
-use Rattle.std.proofs.lemmas.List.{take_all, take_more}
-use Rattle.std.proofs.lemmas.Option.{slice_get_read}
-use Rattle.mls_geom.specs.Rects.{Rect}
-use Rattle.mls_geom.specs.World.{world}
-use Rattle.mls_tilepool.specs.Pools.{tiles_of}
-use Rattle.mls_stitch.specs.Enumerations.{IsListedTo}
-use Rattle.mls_stitch.specs.Gathering.{AreMet}
-use Rattle.mls_stitch.specs.Tilings.{block_at}
-use Rattle.mls_stitch.specs.declared.laid_tile.LaidTile.{LaidTile}
+use Rattle.mls_stitch.proofs.Common.{take_all, take_more, slice_get_read, Rect, world, tiles_of, IsListedTo, AreMet, block_at, LaidTile}
 use Rattle.mls_stitch.proofs.AroundTiles.{IsLostBefore, IsOneOrPart, Surround-keeps, lost_all, lost_more, meeting_few, parts_more, parts_none, parts_skip, searched_few, searched_inside}
 use Rattle.mls_stitch.proofs.Gathered.{AreMet-listed}
 use Rattle.mls_stitch.proofs.ListedTiles.{length-le-AreLaid}

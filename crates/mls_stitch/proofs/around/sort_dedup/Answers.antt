@@ -1,8 +1,7 @@
 -- Tiles with one key stand side by side once they are sorted.
 use Rattle.std.proofs.Common.{rules}
+use Rattle.mls_stitch.proofs.Common.{IsNonDecreasingBy-from_sort_by_key, LaidTile}
 use Rattle.std.proofs.lemmas.Fn.{dedup_same}
-use Rattle.std.proofs.lemmas.List.Sorted.{IsNonDecreasingBy-from_sort_by_key}
-use Rattle.mls_stitch.specs.declared.laid_tile.LaidTile.{LaidTile}
 use Rattle.mls_stitch.proofs.SortedTiles.{KeepsKeys-sorted, once-dedup, same_key}
 use Rattle.mls_stitch.proofs.around.sort_dedup.Goals as goal
 

@@ -1,7 +1,5 @@
 -- Each piece that was passed stays within the bounds as they grow.
-use Rattle.std.proofs.lemmas.List.{take_all}
-use Rattle.mls_geom.specs.Rects.{IsWithin}
-use Rattle.mls_geom.specs.declared.piece.Piece.{Piece}
+use Rattle.mls_stitch.proofs.Common.{take_all, IsWithin, Piece}
 use Rattle.mls_geom.proofs.JoinedRects.{IsWithin-joined, IsWithin-joined_itself}
 use Rattle.mls_stitch.proofs.Gathered.{within_next}
 use Rattle.mls_stitch.proofs.bounds.bounds_of_pieces.Goals as goal

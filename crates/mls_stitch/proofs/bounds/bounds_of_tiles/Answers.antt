@@ -1,11 +1,7 @@
 -- Each tile that was passed stays within the bounds as they grow.
 use Rattle.std.proofs.Common.{ℕ, sym, ◌∙◌, subst}
-use Rattle.std.specs.Option.{IfSome}
-use Rattle.std.proofs.lemmas.List.{take_all}
-use Rattle.mls_geom.specs.Rects.{IsWithin, joined}
+use Rattle.mls_stitch.proofs.Common.{IfSome, take_all, IsWithin, joined, tiles_of, block_at}
 use Rattle.mls_geom.proofs.JoinedRects.{IsWithin-joined_itself}
-use Rattle.mls_tilepool.specs.Pools.{tiles_of}
-use Rattle.mls_stitch.specs.Tilings.{block_at}
 use Rattle.mls_stitch.proofs.Gathered.{grows_blocks, within_next}
 use Rattle.mls_stitch.proofs.ReplacedPlanes.{laid_as}
 use Rattle.mls_stitch.proofs.bounds.bounds_of_tiles.Goals as goal

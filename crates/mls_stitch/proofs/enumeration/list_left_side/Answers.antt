@@ -1,10 +1,6 @@
 -- The tile with the side's square at the line is listed next.
 use Rattle.std.proofs.Common.{◌≡◌, ◌∙◌, ap, subst, arith}
-use Rattle.mls_geom.specs.Rects.{Rect}
-use Rattle.mls_tilepool.specs.Pools.{tiles_of}
-use Rattle.mls_stitch.specs.Tilings.{block_at}
-use Rattle.mls_stitch.specs.Walks.{IsLaidAt}
-use Rattle.mls_geom.proofs.Holds.{holds_between}
+use Rattle.mls_stitch.proofs.Common.{Rect, tiles_of, block_at, IsLaidAt, holds_between}
 use Rattle.mls_stitch.proofs.SideListings.{side_fits, side_push}
 use Rattle.mls_stitch.proofs.enumeration.list_left_side.Goals as goal
 

@@ -1,16 +1,6 @@
 -- The right neighbours of the parent are passed from the top down.
 use Rattle.std.proofs.Common.{◌≡◌, ◌<◌, ◌≤◌, ◌-◌, ◌∷◌, ◌++◌, [], Bool, true, false, ◌&&◌, is_le, is_lt, nat_cmp, max, length, List, Option, Some, ℕ, refl, sym, ap, ◌∙◌, subst, arith}
-use Rattle.std.proofs.lemmas.Bool.Decides.{nat_tests}
-use Rattle.std.proofs.lemmas.List.{get_or_append_left, get_or_read, length_push}
-use Rattle.mls_geom.specs.Rects.{Rect, IsRectangleIn}
-use Rattle.mls_geom.specs.World.{world}
-use Rattle.mls_tilepool.specs.Pools.{tile_in, tiles_of}
-use Rattle.mls_tilepool.specs.declared.tile.Tile.{Tile}
-use Rattle.mls_stitch.specs.Areas.{IsFound}
-use Rattle.mls_stitch.specs.Enumerations.{IsListedTo, IsParent, first_row}
-use Rattle.mls_stitch.specs.Tilings.{IsPlane, block_at, block_of, bottom_beyond}
-use Rattle.mls_stitch.specs.declared.laid_tile.LaidTile.{LaidTile}
-use Rattle.mls_geom.proofs.Holds.{holds_between}
+use Rattle.mls_stitch.proofs.Common.{nat_tests, get_or_append_left, get_or_read, length_push, Rect, IsRectangleIn, world, tile_in, tiles_of, Tile, IsFound, IsListedTo, IsParent, first_row, IsPlane, block_at, block_of, bottom_beyond, LaidTile, holds_between}
 use Rattle.mls_stitch.proofs.Listings.{ArePassed, IsBeside, beside_next, child_fits, child_found, child_rows, led_there, listed_at_end, listed_past, listed_push, listed_skip, next_there, passed_more, passed_none}
 use Rattle.mls_stitch.proofs.Sides.{legal-AreBlocks}
 use Rattle.mls_stitch.proofs.enumeration.push_children.Goals as goal

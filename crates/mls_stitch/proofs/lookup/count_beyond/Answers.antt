@@ -1,8 +1,7 @@
 -- The tiles are sorted, so those beside a count tell whether it is right, and the search parts them at the place.
 use Rattle.std.proofs.Common.{◌≡◌, nat_le, rules, ap, ◌∙◌, arith}
-use Rattle.std.proofs.lemmas.List.Sorted.{IsPartitionPoint-from_clause}
+use Rattle.mls_stitch.proofs.Common.{IsPartitionPoint-from_clause, LaidTile}
 use Rattle.mls_stitch.specs.Lookups.{place_beyond, place_of, rank_of, start_of}
-use Rattle.mls_stitch.specs.declared.laid_tile.LaidTile.{LaidTile}
 use Rattle.mls_stitch.proofs.TilesBeyond.{BeginUpTo-found, IsPartitionedBy-sorted}
 use Rattle.mls_stitch.proofs.lookup.count_beyond.Goals.{else-count-entries-via-then-count-entries+else-start-place, else-count-entries-via-else-count-entries, else-count-gt0-via-then-count-gt0+else-start-place-2, else-count-gt0-via-else-count-gt0}
 use Rattle.mls_stitch.proofs.lookup.count_beyond.Goals as goal

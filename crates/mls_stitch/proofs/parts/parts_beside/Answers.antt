@@ -1,6 +1,6 @@
 -- A square outside the inner rectangle lies on one side of it.
 use Rattle.std.proofs.Common.{◌≡◌, true, false, sym, ◌∙◌, subst}
-use Rattle.mls_geom.specs.Rects.{Rect, holds}
+use Rattle.mls_stitch.proofs.Common.{Rect, holds}
 use Rattle.mls_stitch.proofs.PartsBeside.{parts_cover}
 use Rattle.mls_stitch.proofs.parts.parts_beside.Goals as goal
 

@@ -1,6 +1,6 @@
 -- Each piece is laid under the key beside it.
 use Rattle.std.proofs.Common.{◌≡◌, ◌+◌, length, take, refl, sym, ◌∙◌, arith}
-use Rattle.std.proofs.lemmas.List.{length_push, take_all}
+use Rattle.mls_stitch.proofs.Common.{length_push, take_all}
 use Rattle.std.proofs.lemmas.Slice.Zip.{zip_end, zip_turn}
 use Rattle.mls_stitch.proofs.Laying.{GiveWay-next, GiveWay-set, Lays-next, Lays-refl}
 use Rattle.mls_stitch.proofs.PoolChanges.{ChangesOnly-one, ChangesOnly-refl, ChangesOnly-trans}

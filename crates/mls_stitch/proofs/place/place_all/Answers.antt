@@ -1,6 +1,6 @@
 -- Each piece is laid under an unused key, for which there is room.
 use Rattle.std.proofs.Common.{◌≡◌, length, take, ap, refl, arith}
-use Rattle.std.proofs.lemmas.List.{length-take-le, take_all}
+use Rattle.mls_stitch.proofs.Common.{length-take-le, take_all}
 use Rattle.mls_stitch.proofs.Laying.{GiveWay-add, IsOwner-ChangesOnly, Lays-count, Lays-more, Lays-refl, not_full}
 use Rattle.mls_stitch.proofs.PoolChanges.{ChangesOnly-one, ChangesOnly-refl, ChangesOnly-trans}
 use Rattle.mls_stitch.proofs.place.place_all.Goals as goal

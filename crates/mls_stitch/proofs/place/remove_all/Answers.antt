@@ -1,6 +1,6 @@
 -- Each tile is removed in turn.
 use Rattle.std.proofs.Common.{◌≡◌, take, arith}
-use Rattle.std.proofs.lemmas.List.{take_all}
+use Rattle.mls_stitch.proofs.Common.{take_all}
 use Rattle.mls_stitch.proofs.Laying.{GiveWay-more, GiveWay-next, GiveWay-refl, GiveWay-remove}
 use Rattle.mls_stitch.proofs.PoolChanges.{ChangesOnly-one, ChangesOnly-refl, ChangesOnly-trans}
 use Rattle.mls_stitch.proofs.place.remove_all.Goals as goal

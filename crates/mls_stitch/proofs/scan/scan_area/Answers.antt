@@ -1,9 +1,6 @@
 -- A tile that was looked at is listed, or is not in the area.
 use Rattle.std.proofs.Common.{length, ap, ◌∙◌, subst, arith}
-use Rattle.std.proofs.lemmas.List.Elements.{All-push}
-use Rattle.mls_tilepool.specs.Pools.{tiles_of}
-use Rattle.mls_stitch.specs.Areas.{IsFound}
-use Rattle.mls_stitch.specs.Tilings.{block_at}
+use Rattle.mls_stitch.proofs.Common.{All-push, tiles_of, IsFound, block_at}
 use Rattle.mls_stitch.proofs.Gathered.{AreMetBefore, AreMet-scanned, scan_listed, scan_skipped}
 use Rattle.mls_stitch.proofs.scan.scan_area.Goals as goal
 

@@ -1,7 +1,6 @@
 -- Two rectangles that share a whole side are one together.
 use Rattle.std.proofs.Common.{◌∙◌, subst, subst₂, sym}
-use Rattle.mls_geom.specs.Rects.{Rect, IsRectangleIn}
-use Rattle.mls_geom.specs.World.{world}
+use Rattle.mls_stitch.proofs.Common.{Rect, IsRectangleIn, world}
 use Rattle.mls_stitch.specs.Splits.{JoinAlong}
 use Rattle.mls_stitch.proofs.CutBlocks.{legal-joined_x, legal-joined_y}
 use Rattle.mls_stitch.proofs.split.joined.Goals as goal

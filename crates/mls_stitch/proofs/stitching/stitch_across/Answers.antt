@@ -1,11 +1,8 @@
 -- Both lists are the same tiles in another order each, which are sewn to those around, then to each other, and then to those around over the other side.
 use Rattle.std.proofs.Common.{rules}
-use Rattle.std.specs.List.Sorted.{IsPermutation}
+use Rattle.mls_stitch.proofs.Common.{IsPermutation, All-permutation, IsPermutation-refl, IsPermutation-sym, IsPermutation-trans, IsLaid, LaidTile}
 use Rattle.std.proofs.lemmas.Fn.{always_returns_same}
-use Rattle.std.proofs.lemmas.List.Sorted.{All-permutation, IsPermutation-refl, IsPermutation-sym, IsPermutation-trans}
 use Rattle.mls_stitch.specs.Lookups.{back_of, rank_of, start_of}
-use Rattle.mls_stitch.specs.Walks.{IsLaid}
-use Rattle.mls_stitch.specs.declared.laid_tile.LaidTile.{LaidTile}
 use Rattle.mls_stitch.proofs.SettingStitches.{AreLed-later, KeepStitches-refl, KeepStitches-trans}
 use Rattle.mls_stitch.proofs.TilesBeyond.{AreSortedFor-from_sort}
 use Rattle.mls_stitch.proofs.stitching.stitch_across.Goals as goal

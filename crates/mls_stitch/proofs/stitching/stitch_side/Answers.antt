@@ -1,7 +1,6 @@
 -- Each iteration makes one more fresh tile lead back, until one isn't to; then the tile's own stitch is set, or leads to none of them.
 use Rattle.std.proofs.Common.{◌≡◌, ◌-◌, ◌<◌, ℕ, List, get_or, length, sym, ◌∙◌, arith}
-use Rattle.std.proofs.lemmas.List.{get_or_default}
-use Rattle.mls_stitch.specs.declared.laid_tile.LaidTile.{LaidTile}
+use Rattle.mls_stitch.proofs.Common.{get_or_default, LaidTile}
 use Rattle.mls_stitch.proofs.PoolChanges.{ChangesOnly-trans}
 use Rattle.mls_stitch.proofs.SettingStitches.{KeepStitches-refl, set_there}
 use Rattle.mls_stitch.proofs.SewnTiles.{ArePartlyBack-set, IsSewn-side, onward_none, onward_set}

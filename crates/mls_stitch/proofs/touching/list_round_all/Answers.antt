@@ -1,5 +1,5 @@
 -- The bounds have all pieces.
-use Rattle.mls_tilepool.specs.Pools.{tiles_of}
+use Rattle.mls_stitch.proofs.Common.{tiles_of}
 use Rattle.mls_stitch.proofs.TouchedTiles.{HasTouched-met}
 use Rattle.mls_stitch.proofs.touching.list_round_all.Goals as goal
 

@@ -1,12 +1,6 @@
 -- Round each piece in turn.
 use Rattle.std.proofs.Common.{◌≡◌, ◌+◌, ◌++◌, ◌∷◌, [], length, take, inl, inr, ap, sym, ◌∙◌, subst, IfSome, Vec, Global, vec_capacity, arith}
-use Rattle.std.proofs.lemmas.List.{take_all, take_more}
-use Rattle.mls_geom.specs.Rects.{IsWithin}
-use Rattle.mls_geom.specs.World.{world}
-use Rattle.mls_tilepool.specs.Pools.{tiles_of}
-use Rattle.mls_stitch.specs.Enumerations.{IsListedTo}
-use Rattle.mls_stitch.specs.Tilings.{block_at}
-use Rattle.mls_stitch.specs.declared.laid_tile.LaidTile.{LaidTile}
+use Rattle.mls_stitch.proofs.Common.{take_all, take_more, IsWithin, world, tiles_of, IsListedTo, block_at, LaidTile}
 use Rattle.mls_stitch.proofs.Gathered.{AreMet-listed}
 use Rattle.mls_stitch.proofs.ListedTiles.{length-le-AreLaid}
 use Rattle.mls_stitch.proofs.Sides.{there-IsSomeAnd}

@@ -1,6 +1,5 @@
 -- The sorted list is what area search finds.
-use Rattle.mls_tilepool.specs.Pools.{tiles_of}
-use Rattle.mls_stitch.specs.Tilings.{block_at}
+use Rattle.mls_stitch.proofs.Common.{tiles_of, block_at}
 use Rattle.mls_stitch.proofs.FoundTiles.{area_found}
 use Rattle.mls_stitch.proofs.plane.Plane.area.Goals as goal
 

@@ -1,6 +1,6 @@
 -- The tiles are laid with no stitch and then stitched as the strips' blocks.
 use Rattle.std.proofs.Common.{[], length, refl, ap, arith}
-use Rattle.mls_stitch.specs.Fresh.{fresh_at}
+use Rattle.mls_stitch.proofs.Common.{fresh_at}
 use Rattle.mls_stitch.proofs.BuiltPlanes.{AwaitStitches-built, IsBuilt-stitched}
 use Rattle.mls_stitch.proofs.Laying.{IsOwner-ChangesOnly, Lays-long}
 use Rattle.mls_stitch.proofs.PoolChanges.{ChangesOnly-trans}

@@ -1,6 +1,5 @@
 -- Both blocks as one take their place.
-use Rattle.mls_tilepool.specs.Pools.{tiles_of}
-use Rattle.mls_stitch.specs.Tilings.{block_at}
+use Rattle.mls_stitch.proofs.Common.{tiles_of, block_at}
 use Rattle.mls_stitch.proofs.CutBlocks.{TakePlace-join}
 use Rattle.mls_stitch.proofs.ShownTiles.{KeysDiffer-tiles_of}
 use Rattle.mls_stitch.proofs.SplitCalls.{Joins-call, read-joined}

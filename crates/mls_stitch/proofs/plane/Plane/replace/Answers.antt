@@ -1,10 +1,6 @@
 -- The fresh tiles lie in place of the touched ones, and with those around them wait for their stitches.
 use Rattle.std.proofs.Common.{refl, ap, subst, arith}
-use Rattle.std.proofs.lemmas.Bool.{both_ways}
-use Rattle.mls_tilepool.specs.Pools.{tiles_of}
-use Rattle.mls_stitch.specs.Fresh.{replaced}
-use Rattle.mls_stitch.specs.Replacements.{Replaces, TakePlace}
-use Rattle.mls_stitch.specs.Tilings.{HasPlane, block_at}
+use Rattle.mls_stitch.proofs.Common.{both_ways, tiles_of, replaced, Replaces, TakePlace, HasPlane, block_at}
 use Rattle.mls_stitch.proofs.Laying.{IsOwner-ChangesOnly, Lays-long}
 use Rattle.mls_stitch.proofs.PoolChanges.{ChangesOnly-trans}
 use Rattle.mls_stitch.proofs.ReplacedPlanes.{AwaitStitches-parted, Replaces-instead, tiles_there, touched_few}

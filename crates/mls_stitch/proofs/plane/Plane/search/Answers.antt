@@ -1,9 +1,6 @@
 -- Once all parents are passed, the tiles of the area are listed.
 use Rattle.std.proofs.Common.{subst}
-use Rattle.mls_geom.specs.World.{world}
-use Rattle.mls_tilepool.specs.Pools.{tiles_of}
-use Rattle.mls_stitch.specs.Enumerations.{IsListedTo}
-use Rattle.mls_stitch.specs.Tilings.{block_at}
+use Rattle.mls_stitch.proofs.Common.{world, tiles_of, IsListedTo, block_at}
 use Rattle.mls_stitch.proofs.Listings.{MeetArea-listed}
 use Rattle.mls_stitch.proofs.plane.Plane.search.Goals as goal
 

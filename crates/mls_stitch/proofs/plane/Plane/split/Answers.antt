@@ -1,6 +1,5 @@
 -- The parts of the tile's block take its place.
-use Rattle.mls_tilepool.specs.Pools.{tiles_of}
-use Rattle.mls_stitch.specs.Tilings.{block_at}
+use Rattle.mls_stitch.proofs.Common.{tiles_of, block_at}
 use Rattle.mls_stitch.proofs.CutBlocks.{TakePlace-cut}
 use Rattle.mls_stitch.proofs.ShownTiles.{KeysDiffer-tiles_of}
 use Rattle.mls_stitch.proofs.SplitCalls.{Splits-call, read-block}

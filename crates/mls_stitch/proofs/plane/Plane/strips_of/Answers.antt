@@ -1,10 +1,6 @@
 -- An area search over the world finds all tiles.
 use Rattle.std.proofs.Common.{subst}
-use Rattle.mls_geom.specs.World.{world}
-use Rattle.mls_tilepool.specs.Pools.{tiles_of}
-use Rattle.mls_stitch.specs.Areas.{AreInArea}
-use Rattle.mls_stitch.specs.Enumerations.{IsListedTo}
-use Rattle.mls_stitch.specs.Tilings.{block_at}
+use Rattle.mls_stitch.proofs.Common.{world, tiles_of, AreInArea, IsListedTo, block_at}
 use Rattle.mls_stitch.proofs.FoundTiles.{area_found}
 use Rattle.mls_stitch.proofs.ListedTiles.{length-AreInArea, picture-AreInArea, strips-AreInArea}
 use Rattle.mls_stitch.proofs.Listings.{MeetArea-listed}

@@ -1,8 +1,6 @@
 -- One search was enough, or several were gathered.
 use Rattle.std.proofs.Common.{ap, arith}
-use Rattle.mls_tilepool.specs.Pools.{tiles_of}
-use Rattle.mls_stitch.specs.Gathering.{HasTouched}
-use Rattle.mls_stitch.specs.Tilings.{block_at}
+use Rattle.mls_stitch.proofs.Common.{tiles_of, HasTouched, block_at}
 use Rattle.mls_stitch.proofs.Gathered.{AreMet-MeetArea}
 use Rattle.mls_stitch.proofs.ListedTiles.{length-le-AreLaid}
 use Rattle.mls_stitch.proofs.TouchedTiles.{HasTouched-met, ListTouched-AreInArea, ListTouched-passed, touched_keeps}

@@ -1,5 +1,5 @@
 use Rattle.std.proofs.Common.{Some, refl, sym, ap, ◌∙◌, arith}
-use Rattle.std.proofs.lemmas.Bool.{false≢true}
+use Rattle.mls_tilepool.proofs.Common.{false≢true}
 use Rattle.mls_tilepool.proofs.PoolSteps.{room_for_tile, room_reserved}
 use Rattle.mls_tilepool.proofs.PoolViews.{count_of-row, room_of-row, tile_at-vacant}
 use Rattle.mls_tilepool.proofs.TileCalls.{Changes-added, IsPool-added, count_of-added}

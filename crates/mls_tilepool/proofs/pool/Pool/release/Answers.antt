@@ -1,5 +1,5 @@
 use Rattle.std.proofs.Common.{◌≡◌, ◌+◌, get_or, None, is_some, sym, ap, ◌∙◌}
-use Rattle.mls_tilepool.specs.Pools.{room_of, unreserved}
+use Rattle.mls_tilepool.proofs.Common.{room_of, unreserved}
 use Rattle.mls_tilepool.proofs.OwnerCalls.{IsPool-let_go, Reserves-from_released, Reserves-released, unreserved-released, unreserved-same}
 use Rattle.mls_tilepool.proofs.PoolViews.{IfSome-at, owner_row, room_of-row}
 use Rattle.mls_tilepool.proofs.pool.Pool.release.Goals as goal

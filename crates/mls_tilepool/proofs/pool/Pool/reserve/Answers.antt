@@ -1,5 +1,5 @@
 use Rattle.std.proofs.Common.{refl, arith}
-use Rattle.std.proofs.lemmas.Bool.{false≢true}
+use Rattle.mls_tilepool.proofs.Common.{false≢true}
 use Rattle.mls_tilepool.proofs.OwnerCalls.{Reserves-reserved, unreserved-reserved}
 use Rattle.mls_tilepool.proofs.PoolSteps.{IsPool-reserved, room_for_row}
 use Rattle.mls_tilepool.proofs.PoolViews.{unreserved-pool}

@@ -1,7 +1,5 @@
 use Rattle.std.proofs.Common.{◌≡◌, Some, IsSome}
-use Rattle.slab.specs.Slab.{get}
-use Rattle.mls_tilepool.specs.Pools.{tile_at}
-use Rattle.mls_tilepool.specs.declared.chain.Row.{Row}
+use Rattle.mls_tilepool.proofs.Common.{get, tile_at, Row}
 use Rattle.mls_tilepool.proofs.PoolViews.{HoldsTile, holds_tile, place_there, row_there, some_value, viewed}
 use Rattle.mls_tilepool.proofs.TileCalls.{Changes-retiled, IsPool-retiled, count_of-retiled}
 use Rattle.mls_tilepool.proofs.pool.Pool.set.Goals as goal
