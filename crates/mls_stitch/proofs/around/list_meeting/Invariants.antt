@@ -1,6 +1,5 @@
 use Rattle.std.proofs.Common.{◌≡◌, ◌≤◌, filter, take, vec_len, vec_capacity}
-use Rattle.mls_geom.specs.Rects.{meets}
-use Rattle.mls_stitch.specs.declared.laid_tile.LaidTile.{LaidTile}
+use Rattle.mls_stitch.proofs.Common.{meets, LaidTile}
 use Rattle.mls_stitch.proofs.around.list_meeting.Given as goal
 
 abbrev pub invariant-loop-tile : goal.invariant-loop-tile

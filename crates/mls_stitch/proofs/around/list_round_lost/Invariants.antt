@@ -1,7 +1,5 @@
 use Rattle.std.proofs.Common.{◌≡◌, take, vec_capacity}
-use Rattle.mls_tilepool.specs.Pools.{tiles_of}
-use Rattle.mls_stitch.specs.Placing.{Surround}
-use Rattle.mls_stitch.specs.Tilings.{block_at}
+use Rattle.mls_stitch.proofs.Common.{tiles_of, Surround, block_at}
 use Rattle.mls_stitch.proofs.AroundTiles.{IsLostBefore, IsOneOrPart}
 use Rattle.mls_stitch.proofs.around.list_round_lost.Given as goal
 

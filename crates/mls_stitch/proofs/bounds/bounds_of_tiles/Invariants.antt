@@ -1,8 +1,6 @@
 -- The bounds have the tiles that were passed.
 use Rattle.std.proofs.Common.{take}
-use Rattle.mls_tilepool.specs.Pools.{tiles_of}
-use Rattle.mls_stitch.specs.Gathering.{EncloseBlocks}
-use Rattle.mls_stitch.specs.Tilings.{block_at}
+use Rattle.mls_stitch.proofs.Common.{tiles_of, EncloseBlocks, block_at}
 use Rattle.mls_stitch.proofs.bounds.bounds_of_tiles.Given as goal
 
 abbrev pub invariant-loop-id : goal.invariant-loop-id

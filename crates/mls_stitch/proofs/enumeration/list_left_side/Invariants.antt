@@ -1,8 +1,6 @@
 -- The side is listed up to the line.
 use Rattle.std.proofs.Common.{◌≡◌, ◌-◌, ◌≤◌, vec_capacity}
-use Rattle.mls_tilepool.specs.Pools.{tiles_of}
-use Rattle.mls_stitch.specs.Enumerations.{IsSideListedTo}
-use Rattle.mls_stitch.specs.Tilings.{block_at}
+use Rattle.mls_stitch.proofs.Common.{tiles_of, IsSideListedTo, block_at}
 use Rattle.mls_stitch.proofs.enumeration.list_left_side.Given as goal
 
 abbrev pub invariant-side : goal.invariant-side

@@ -1,9 +1,6 @@
 -- The children of the tiles before the index are listed.
 use Rattle.std.proofs.Common.{◌≡◌, ◌-◌, ◌≤◌, vec_capacity, vec_len}
-use Rattle.mls_geom.specs.World.{world}
-use Rattle.mls_tilepool.specs.Pools.{tiles_of}
-use Rattle.mls_stitch.specs.Enumerations.{IsListedTo}
-use Rattle.mls_stitch.specs.Tilings.{block_at}
+use Rattle.mls_stitch.proofs.Common.{world, tiles_of, IsListedTo, block_at}
 use Rattle.mls_stitch.proofs.enumeration.list_tiles.Given as goal
 
 abbrev pub invariant-tiles : goal.invariant-tiles

@@ -51,26 +51,30 @@ not_in_rows : (low row high : ℕ) (test : Bool) → test ≡ (is_le (nat_cmp lo
 not_in_rows low row high test is fails above below = grind (arith, nat_tests)
 
 step_read :
-    {tiles : List (ℕ × Tile)} {area bounds : Rect} {list : List LaidTile} {index line last row id : ℕ} {parent : LaidTile} {next : Option ℕ} {tile : Tile} {test : Bool} → IsPlane tiles
+    {tiles : List (ℕ × Tile)} {area bounds : Rect} {list : List LaidTile} {index line last row id : ℕ} {parent : LaidTile} {next : Option ℕ} {slot : Option Tile} {tile : Tile} {test : Bool} → IsPlane tiles
     → IsRectangleIn world area → bounds ≡ area → ArePassed (block_at tiles) area list index line parent next → last ≡ first_row area parent → last < line → next ≡ Some id
-    → tile_in tiles id ≡ Some tile → row ≡ max tile.corner.y bounds.bottom → test ≡ (is_le (nat_cmp last row) && is_lt (nat_cmp row bounds.top)) → IsRead tiles area list index line parent id tile test
-step_read {tiles} {area} {bounds} {list} {index} {line} {last} {row} {id} {parent} {next} {tile} {test} plane inside is was is_last lower named there is_row is_test =
+    → slot ≡ tile_in tiles id → slot ≡ Some tile → row ≡ max tile.corner.y bounds.bottom → test ≡ (is_le (nat_cmp last row) && is_lt (nat_cmp row bounds.top))
+    → (tile_in tiles id ≡ Some tile) × IsRead tiles area list index line parent id tile test
+step_read {tiles} {area} {bounds} {list} {index} {line} {last} {row} {id} {parent} {next} {tile = tile} {test = test} plane inside is was is_last lower named got got_tile is_row is_test =
     let blocks = block_at tiles in
     let this : LaidTile = record { id = id; piece = block_of tiles tile } in
+    let there : tile_in tiles id ≡ Some tile = sym got ∙ got_tile in
     let bottom = ap (λ (e : Rect). e.bottom) is in
     let top = ap (λ (e : Rect). e.top) is in
     let not_last : first_row area parent < line = omega (arith, is_last, lower) in
-    let beside = beside_next tiles area plane inside list index line id parent next tile was not_last named there in
-    record {
-      beside = beside;
-      lower = omega (arith, (holds_between this.piece.rect parent.piece.rect.right (line - 1) beside.beside.held).2, not_last);
-      child = λ passes.
-          let (above, below) = in_rows last row bounds.top test is_test passes in
-          child_found blocks area plane.tiling inside list index line parent this beside (omega (arith, bottom, is_last, is_row, above)) (omega (arith, bottom, top, is_row, below));
-      other = λ fails. listed_skip blocks area plane.tiling inside list index line parent this beside (λ found is_parent.
-          let (above, below) = child_rows blocks area plane.tiling inside parent this found is_parent in
-          not_in_rows last row bounds.top test is_test fails (omega (arith, bottom, is_last, is_row, above)) (omega (arith, bottom, top, is_row, below)));
-    }
+    let beside = beside_next tiles area plane inside list index line id parent next tile was not_last named there in (
+      there,
+      record {
+        beside = beside;
+        lower = omega (arith, (holds_between this.piece.rect parent.piece.rect.right (line - 1) beside.beside.held).2, not_last);
+        child = λ passes.
+            let (above, below) = in_rows last row bounds.top test is_test passes in
+            child_found blocks area plane.tiling inside list index line parent this beside (omega (arith, bottom, is_last, is_row, above)) (omega (arith, bottom, top, is_row, below));
+        other = λ fails. listed_skip blocks area plane.tiling inside list index line parent this beside (λ found is_parent.
+            let (above, below) = child_rows blocks area plane.tiling inside parent this found is_parent in
+            not_in_rows last row bounds.top test is_test fails (omega (arith, bottom, is_last, is_row, above)) (omega (arith, bottom, top, is_row, below)));
+      },
+    )
 
 pub unwrap-id-requires : goal.unwrap-id-requires
 unwrap-id-requires c =
@@ -88,8 +92,7 @@ pub laid_to-requires : goal.laid_to-requires
 laid_to-requires c =
     let tiles = tiles_of c.args.pool.now c.args.owner.now in
     let (parent, was, last, top) = c.neighbours.invariant.passed in
-    let there = sym c.get-in-neighbours.ensures ∙ c.unwrap-tile.ensures in
-    let step = step_read c.requires.plane.plane c.requires.legal (c.bounds.view_is ∙ c.area-bounds.ensures.value) was last c.neighbours-test.true c.unwrap-id.ensures there (c.max.ensures ∙ ap (λ y. max y c.bounds.inside.bottom) c.row-bottom.ensures) c.contains.ensures.value in
+    let (there, step) = step_read c.requires.plane.plane c.requires.legal (c.bounds.view_is ∙ c.area-bounds.ensures.value) was last c.neighbours-test.true c.unwrap-id.ensures c.get-in-neighbours.ensures c.unwrap-tile.ensures (c.max.ensures ∙ ap (λ y. max y c.bounds.inside.bottom) c.row-bottom.ensures) c.contains.ensures.value in
     let high : c.if-line-sides.top ≡ bottom_beyond tiles c.unwrap-tile.result.rt = elim c.if-line-sides.branch [
       | then-line-sides w ↦ w.top-is ∙ sym (step.beside.told (omega (arith, top, w.if-line-sides.true)))
       | else-line-sides w ↦ w.top-is ∙ w.bottom_beyond-top.ensures
@@ -100,8 +103,7 @@ pub push_reserved-requires : goal.push_reserved-requires
 push_reserved-requires c =
     let tiles = tiles_of c.args.pool.now c.args.owner.now in
     let (parent, was, last, top) = c.neighbours.invariant.passed in
-    let there = sym c.get-in-neighbours.ensures ∙ c.unwrap-tile.ensures in
-    let step = step_read c.requires.plane.plane c.requires.legal (c.bounds.view_is ∙ c.area-bounds.ensures.value) was last c.neighbours-test.true c.unwrap-id.ensures there (c.max.ensures ∙ ap (λ y. max y c.bounds.inside.bottom) c.row-bottom.ensures) c.contains.ensures.value in
+    let (there, step) = step_read c.requires.plane.plane c.requires.legal (c.bounds.view_is ∙ c.area-bounds.ensures.value) was last c.neighbours-test.true c.unwrap-id.ensures c.get-in-neighbours.ensures c.unwrap-tile.ensures (c.max.ensures ∙ ap (λ y. max y c.bounds.inside.bottom) c.row-bottom.ensures) c.contains.ensures.value in
     let (found, is_parent) = step.child c.if-contains.true in
     let fits =
     child_fits tiles c.args.area c.requires.plane.plane c.requires.legal c.neighbours.list.items c.args.index c.neighbours.line c.unwrap-id.result parent c.unwrap-tile.result there step.beside
@@ -110,26 +112,21 @@ push_reserved-requires c =
 
 pub neighbours-smaller-after-line-sides : goal.neighbours-smaller-after-line-sides
 neighbours-smaller-after-line-sides c =
-    let tiles = tiles_of c.args.pool.now c.args.owner.now in
-    let (parent, was, last, top) = c.neighbours.invariant.passed in
-    let there = sym c.get-in-neighbours.ensures ∙ c.unwrap-tile.ensures in
-    let step = step_read c.requires.plane.plane c.requires.legal (c.bounds.view_is ∙ c.area-bounds.ensures.value) was last c.neighbours-test.true c.unwrap-id.ensures there (c.max.ensures ∙ ap (λ y. max y c.bounds.inside.bottom) c.row-bottom.ensures) c.contains.ensures.value in
+    let (_, was, last, _) = c.neighbours.invariant.passed in
+    let (_, step) = step_read c.requires.plane.plane c.requires.legal (c.bounds.view_is ∙ c.area-bounds.ensures.value) was last c.neighbours-test.true c.unwrap-id.ensures c.get-in-neighbours.ensures c.unwrap-tile.ensures (c.max.ensures ∙ ap (λ y. max y c.bounds.inside.bottom) c.row-bottom.ensures) c.contains.ensures.value in
     omega (arith, step.lower, c.row-bottom.ensures)
 
 pub neighbours-smaller : goal.neighbours-smaller
 neighbours-smaller c =
-    let tiles = tiles_of c.args.pool.now c.args.owner.now in
-    let (parent, was, last, top) = c.neighbours.invariant.passed in
-    let there = sym c.get-in-neighbours.ensures ∙ c.unwrap-tile.ensures in
-    let step = step_read c.requires.plane.plane c.requires.legal (c.bounds.view_is ∙ c.area-bounds.ensures.value) was last c.neighbours-test.true c.unwrap-id.ensures there (c.max.ensures ∙ ap (λ y. max y c.bounds.inside.bottom) c.row-bottom.ensures) c.contains.ensures.value in
+    let (_, was, last, _) = c.neighbours.invariant.passed in
+    let (_, step) = step_read c.requires.plane.plane c.requires.legal (c.bounds.view_is ∙ c.area-bounds.ensures.value) was last c.neighbours-test.true c.unwrap-id.ensures c.get-in-neighbours.ensures c.unwrap-tile.ensures (c.max.ensures ∙ ap (λ y. max y c.bounds.inside.bottom) c.row-bottom.ensures) c.contains.ensures.value in
     omega (arith, step.lower, c.row-bottom.ensures)
 
 pub neighbours-preserved-after-line-sides : goal.neighbours-preserved-after-line-sides
 neighbours-preserved-after-line-sides c =
     let tiles = tiles_of c.args.pool.now c.args.owner.now in
     let (parent, was, last, top) = c.neighbours.invariant.passed in
-    let there = sym c.get-in-neighbours.ensures ∙ c.unwrap-tile.ensures in
-    let step = step_read c.requires.plane.plane c.requires.legal (c.bounds.view_is ∙ c.area-bounds.ensures.value) was last c.neighbours-test.true c.unwrap-id.ensures there (c.max.ensures ∙ ap (λ y. max y c.bounds.inside.bottom) c.row-bottom.ensures) c.contains.ensures.value in
+    let (there, step) = step_read c.requires.plane.plane c.requires.legal (c.bounds.view_is ∙ c.area-bounds.ensures.value) was last c.neighbours-test.true c.unwrap-id.ensures c.get-in-neighbours.ensures c.unwrap-tile.ensures (c.max.ensures ∙ ap (λ y. max y c.bounds.inside.bottom) c.row-bottom.ensures) c.contains.ensures.value in
     let high : c.if-line-sides.top ≡ bottom_beyond tiles c.unwrap-tile.result.rt = elim c.if-line-sides.branch [
       | then-line-sides w ↦ w.top-is ∙ sym (step.beside.told (omega (arith, top, w.if-line-sides.true)))
       | else-line-sides w ↦ w.top-is ∙ w.bottom_beyond-top.ensures
@@ -152,8 +149,7 @@ pub neighbours-preserved : goal.neighbours-preserved
 neighbours-preserved c =
     let tiles = tiles_of c.args.pool.now c.args.owner.now in
     let (parent, was, last, top) = c.neighbours.invariant.passed in
-    let there = sym c.get-in-neighbours.ensures ∙ c.unwrap-tile.ensures in
-    let step = step_read c.requires.plane.plane c.requires.legal (c.bounds.view_is ∙ c.area-bounds.ensures.value) was last c.neighbours-test.true c.unwrap-id.ensures there (c.max.ensures ∙ ap (λ y. max y c.bounds.inside.bottom) c.row-bottom.ensures) c.contains.ensures.value in
+    let (there, step) = step_read c.requires.plane.plane c.requires.legal (c.bounds.view_is ∙ c.area-bounds.ensures.value) was last c.neighbours-test.true c.unwrap-id.ensures c.get-in-neighbours.ensures c.unwrap-tile.ensures (c.max.ensures ∙ ap (λ y. max y c.bounds.inside.bottom) c.row-bottom.ensures) c.contains.ensures.value in
     let passed =
     passed_more tiles c.args.area c.requires.plane.plane c.requires.legal c.neighbours.list.items c.args.index c.neighbours.line c.unwrap-id.result parent c.unwrap-tile.result there step.beside
     c.neighbours.list.items was.within was.here (step.other c.if-contains.false) in

@@ -1,9 +1,6 @@
 -- The right neighbours of the parent are passed down to the line.
 use Rattle.std.proofs.Common.{◌≡◌, ◌≤◌, vec_len, vec_capacity}
-use Rattle.mls_tilepool.specs.Pools.{tiles_of}
-use Rattle.mls_stitch.specs.Enumerations.{first_row}
-use Rattle.mls_stitch.specs.Tilings.{block_at}
-use Rattle.mls_stitch.specs.declared.laid_tile.LaidTile.{LaidTile}
+use Rattle.mls_stitch.proofs.Common.{tiles_of, first_row, block_at, LaidTile}
 use Rattle.mls_stitch.proofs.Listings.{ArePassed}
 use Rattle.mls_stitch.proofs.enumeration.push_children.Given as goal
 

@@ -1,7 +1,5 @@
 use Rattle.std.proofs.Common.{◌≡◌, ◌+◌, length, take, vec_len, vec_capacity}
-use Rattle.mls_tilepool.specs.Pools.{tiles_of}
-use Rattle.mls_stitch.specs.Placing.{Lays}
-use Rattle.mls_stitch.specs.Tilings.{ChangesOnly}
+use Rattle.mls_stitch.proofs.Common.{tiles_of, Lays, ChangesOnly}
 use Rattle.mls_stitch.proofs.place.place_again.Given as goal
 
 abbrev pub invariant-loop-id : goal.invariant-loop-id

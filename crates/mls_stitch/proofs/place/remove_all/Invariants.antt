@@ -1,7 +1,5 @@
 use Rattle.std.proofs.Common.{[], take}
-use Rattle.mls_tilepool.specs.Pools.{tiles_of}
-use Rattle.mls_stitch.specs.Placing.{GiveWay}
-use Rattle.mls_stitch.specs.Tilings.{ChangesOnly}
+use Rattle.mls_stitch.proofs.Common.{tiles_of, GiveWay, ChangesOnly}
 use Rattle.mls_stitch.proofs.place.remove_all.Given as goal
 
 abbrev pub invariant-loop-id : goal.invariant-loop-id

@@ -1,8 +1,6 @@
 -- Each tile of the area is listed, or is not passed yet.
 use Rattle.std.proofs.Common.{◌≡◌, ◌+◌, ◌≤◌, length, All, vec_len, vec_capacity}
-use Rattle.mls_tilepool.specs.Pools.{count_of, tiles_of}
-use Rattle.mls_stitch.specs.Areas.{IsFound}
-use Rattle.mls_stitch.specs.Tilings.{block_at}
+use Rattle.mls_stitch.proofs.Common.{count_of, tiles_of, IsFound, block_at}
 use Rattle.mls_stitch.proofs.Gathered.{AreMetBefore}
 use Rattle.mls_stitch.proofs.scan.scan_area.Given as goal
 

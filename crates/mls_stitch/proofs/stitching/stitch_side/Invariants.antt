@@ -1,9 +1,5 @@
 use Rattle.std.proofs.Common.{◌≡◌, ℕ, ◌≤◌, Option, All}
-use Rattle.mls_geom.specs.declared.piece.Piece.{Piece}
-use Rattle.mls_tilepool.specs.Pools.{count_of, tiles_of}
-use Rattle.mls_stitch.specs.Pending.{AreInPlace}
-use Rattle.mls_stitch.specs.Tilings.{ChangesOnly}
-use Rattle.mls_stitch.specs.Walks.{IsLaid}
+use Rattle.mls_stitch.proofs.Common.{Piece, count_of, tiles_of, AreInPlace, ChangesOnly, IsLaid}
 use Rattle.mls_stitch.proofs.SewnTiles.{ArePartlyBack}
 use Rattle.mls_stitch.proofs.stitching.stitch_side.Given as goal
 

@@ -1,7 +1,5 @@
 use Rattle.std.proofs.Common.{◌≡◌, IfSome, take, vec_capacity}
-use Rattle.mls_tilepool.specs.Pools.{tiles_of}
-use Rattle.mls_stitch.specs.Tilings.{block_at}
-use Rattle.mls_stitch.specs.Gathering.{HasTouched}
+use Rattle.mls_stitch.proofs.Common.{tiles_of, block_at, HasTouched}
 use Rattle.mls_stitch.proofs.TouchedTiles.{IsPassed}
 use Rattle.mls_stitch.proofs.touching.list_round_each.Given as goal
 

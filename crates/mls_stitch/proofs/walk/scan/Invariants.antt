@@ -1,9 +1,6 @@
 -- The tile that has the square is not passed yet.
 use Rattle.std.proofs.Common.{ℕ}
-use Rattle.std.specs.Option.{IsSome}
-use Rattle.mls_tilepool.specs.Pools.{tile_in, tiles_of}
-use Rattle.mls_stitch.specs.Stitches.{HoldsAt}
-use Rattle.mls_stitch.specs.Tilings.{block_at}
+use Rattle.mls_stitch.proofs.Common.{IsSome, tile_in, tiles_of, HoldsAt, block_at}
 use Rattle.mls_stitch.proofs.walk.scan.Given as goal
 
 abbrev pub invariant-loop-id : goal.invariant-loop-id
