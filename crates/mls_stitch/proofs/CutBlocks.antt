@@ -1,6 +1,6 @@
 -- Blocks cut in two by a line, and two blocks as one: the parts have exactly the squares of the whole.
 use Rattle.std.proofs.Common.{◌≡◌, ◌≢◌, ◌⊎◌, ℕ, ◌<◌, true, IsTrue, List, [], ◌∷◌, Option, Some, IsSome, All, AllPairs, Any, inl, inr, refl, sym, ap, ◌∙◌, subst, arith}
-use Rattle.mls_stitch.proofs.Common.{cases_lt, nat_tests, All-cons, All-nil, same_Some, Point, IsRectangleIn, holds, world, Piece, Contains-first, Contains-rest, between_holds, holds_between, AreDisjoint, TakePlace, HoldsAt, AreBlocks}
+use Rattle.mls_stitch.proofs.Common.{cases_lt, nat_tests, All-cons, All-nil, same_Some, Point, IsRectangleIn, holds, world, Piece, Contains-first, Contains-rest, holds_between, AreDisjoint, TakePlace, HoldsAt, AreBlocks}
 use Rattle.std.proofs.lemmas.List.Kept.{AllPairs-cons}
 use Rattle.mls_stitch.specs.Splits.{IsCutAt, JoinAlong, JoinInX, JoinInY, first_part, joined_along, joined_x, joined_y, left_part, lower_of, right_part, second_part, upper_of}
 use Rattle.mls_stitch.specs.declared.split.Axis.{Axis}
@@ -23,12 +23,7 @@ parts-joined_x : (a b : Piece) → a.rect.left < a.rect.right → b.rect.left < 
 parts-joined_x a b wide_a wide_b join = record {
   in_first = λ at inside. grind (arith, nat_tests);
   in_second = λ at inside. grind (arith, nat_tests);
-  either = λ at inside.
-      let lines = holds_between (joined_x a b).rect at.x at.y inside in
-      elim (cases_lt at.x a.rect.right) [
-        | inl below ↦ inl (between_holds a.rect at.x at.y lines.0 below lines.2 lines.3)
-        | inr above ↦ inr (between_holds b.rect at.x at.y (omega (arith, above, join.meet)) lines.1 (omega (arith, lines.2, join.bottoms)) (omega (arith, lines.3, join.tops)))
-      ];
+  either = λ at inside. elim (cases_lt at.x a.rect.right) [ inl below ↦ inl (grind (arith, nat_tests)) | inr above ↦ inr (grind (arith, nat_tests)) ];
   apart = λ at in_a in_b. omega (arith, (holds_between a.rect at.x at.y in_a).1, (holds_between b.rect at.x at.y in_b).0, join.meet);
   first_kind = refl;
   second_kind = join.kinds;
@@ -38,12 +33,7 @@ parts-joined_y : (a b : Piece) → a.rect.bottom < a.rect.top → b.rect.bottom 
 parts-joined_y a b tall_a tall_b join = record {
   in_first = λ at inside. grind (arith, nat_tests);
   in_second = λ at inside. grind (arith, nat_tests);
-  either = λ at inside.
-      let lines = holds_between (joined_y a b).rect at.x at.y inside in
-      elim (cases_lt at.y a.rect.top) [
-        | inl below ↦ inl (between_holds a.rect at.x at.y lines.0 lines.1 lines.2 below)
-        | inr above ↦ inr (between_holds b.rect at.x at.y (omega (arith, lines.0, join.lefts)) (omega (arith, lines.1, join.rights)) (omega (arith, above, join.meet)) lines.3)
-      ];
+  either = λ at inside. elim (cases_lt at.y a.rect.top) [ inl below ↦ inl (grind (arith, nat_tests)) | inr above ↦ inr (grind (arith, nat_tests)) ];
   apart = λ at in_a in_b. omega (arith, (holds_between a.rect at.x at.y in_a).3, (holds_between b.rect at.x at.y in_b).2, join.meet);
   first_kind = refl;
   second_kind = join.kinds;
