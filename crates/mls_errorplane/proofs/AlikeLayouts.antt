@@ -1,7 +1,7 @@
 -- Where each plane shows one kind round squares, the rules forbid all of these or none; where it shows columns, all of a column or none; where rows, all of a row.
 use Rattle.std.proofs.Common.{◌≡◌, ℕ, true, not, ◌&&◌, ◌||◌, List, refl, sym, ap, ◌∙◌}
 use Rattle.std.specs.List.{list_any}
-use Rattle.mls_errorplane.proofs.Words.{Columns, Direction, EdgeRule, IsAlike, Layout, Likeness, OneKind, Point, Rect, Right, Rows, across, directions_in, forbidden, forbids, holds, in_block, in_row, is_disallowed, like_column, like_row, reaches, world}
+use Rattle.mls_errorplane.proofs.Common.{Columns, Direction, EdgeRule, IsAlike, Layout, Likeness, OneKind, Point, Rect, Right, Rows, across, directions_in, forbidden, forbids, holds, in_block, in_row, is_disallowed, like_column, like_row, reaches, world}
 use Rattle.mls_checker.proofs.ListTests.{list_any_same}
 use Rattle.mls_checker.proofs.Locality.{forbidden_same_in}
 use Rattle.mls_kinds.specs.KindSets.{has_bit as has_type}

@@ -5,7 +5,7 @@ use Rattle.std.proofs.lemmas.Bool.Decides.{nat_tests}
 use Rattle.std.proofs.lemmas.List.Sums.{sum_by-append, sum_by-cons, sum_by-le}
 use Rattle.std.proofs.lemmas.Nat.{mul-le}
 use Rattle.std.proofs.Math.Nat.{mul-zero, one-le-mul, zero-mul}
-use Rattle.mls_errorplane.proofs.Words.{IsDirtyList, IsRectangleIn, Rect, area_of, dropped, has_squares, most_pieces, piece_of, rest_above, rest_beside, rests_of, size_of, world}
+use Rattle.mls_errorplane.proofs.Common.{IsDirtyList, IsRectangleIn, Rect, area_of, dropped, has_squares, most_pieces, piece_of, rest_above, rest_beside, rests_of, size_of, world}
 
 -- a rectangle without squares has the size 0
 size_of-none : (e : Rect) → has_squares e ≡ false → size_of e ≡ 0

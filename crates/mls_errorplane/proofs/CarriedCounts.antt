@@ -2,7 +2,7 @@
 use Rattle.std.proofs.Common.{◌≡◌, ℕ, ◌+◌, ◌*◌, ◌<◌, ◌≤◌, ◌==◌, Bool, cond, not, true, false, inl, inr, List, All, IfSome, Option, None, Some, length, refl, sym, ap, ◌∙◌, le_refl, arith}
 use Rattle.std.proofs.lemmas.Bool.{both_ways, cases_Bool, false_from_ne_true}
 use Rattle.std.proofs.lemmas.List.Elements.{All-contains}
-use Rattle.mls_errorplane.proofs.Words.{AreCarried, AreFew, Columns, GoUp, HasPlane, HasStrips, IsRectangleIn, LaidTile, LeavesRoom, Likeness, MeetArea, OneKind, Picture, Pool, Rect, Rows, RunsThrough, SquareSet, block_at, carries_up, holds, is_marked, likened, marks_picture, picture_in, piece_side, remarked, tile_count, tiles_of, world}
+use Rattle.mls_errorplane.proofs.Common.{AreCarried, AreFew, Columns, GoUp, HasPlane, HasStrips, IsRectangleIn, LaidTile, LeavesRoom, Likeness, MeetArea, OneKind, Picture, Pool, Rect, Rows, RunsThrough, SquareSet, block_at, carries_up, holds, is_marked, likened, marks_picture, picture_in, piece_side, remarked, tile_count, tiles_of, world}
 use Rattle.mls_geom.proofs.Holds.{between_holds, holds_between}
 use Rattle.mls_checker.proofs.Copying.{found-HasPiece}
 use Rattle.mls_errorplane.proofs.PartCounts.{tile_count-above, tile_count-found}

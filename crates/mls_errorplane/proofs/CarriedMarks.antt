@@ -5,7 +5,7 @@ use Rattle.std.proofs.lemmas.Bool.{both_ways, cases_Bool, cond-false, cond-true,
 use Rattle.std.proofs.lemmas.Bool.Decides.{nat_tests}
 use Rattle.std.proofs.lemmas.List.{get_or-map, length-map}
 use Rattle.std.proofs.lemmas.List.Elements.{All-map}
-use Rattle.mls_errorplane.proofs.Words.{AreCarried, AreFew, AreInArea, AreRight, AreRightIn, Checked, Columns, EdgeRule, HasPlane, IsAlike, IsRectangleIn, LaidTile, Layout, Likeness, OneKind, Paints, Picture, Piece, Pool, Rect, Rows, SquareSet, Tells, block_at, count_of, edge_of, exceeds, holds, is_marked, joined, like_column, like_row, likened, marked_count, marks_picture, meets, overlaid, part_like, picture_in, piece_like, remarked, tiles_of, world}
+use Rattle.mls_errorplane.proofs.Common.{AreCarried, AreFew, AreInArea, AreRight, AreRightIn, Checked, Columns, EdgeRule, HasPlane, IsAlike, IsRectangleIn, LaidTile, Layout, Likeness, OneKind, Paints, Picture, Piece, Pool, Rect, Rows, SquareSet, Tells, block_at, count_of, edge_of, exceeds, holds, is_marked, joined, like_column, like_row, likened, marked_count, marks_picture, meets, overlaid, part_like, picture_in, piece_like, remarked, tiles_of, world}
 use Rattle.mls_geom.proofs.Holds.{between_holds, holds_between}
 use Rattle.mls_geom.proofs.JoinedRects.{holds-joined_one, holds-joined_other}
 use Rattle.mls_geom.proofs.Overlays.{Agrees, overlaid_agreed, overlaid_outside}

@@ -4,7 +4,7 @@ use Rattle.std.specs.Option.{IsSomeAnd}
 use Rattle.std.proofs.Math.Path.{fun_ext}
 use Rattle.std.proofs.lemmas.Bool.{both_ways, cases_Bool, cases_lt, false_from_ne_true}
 use Rattle.std.proofs.lemmas.Bool.Decides.{nat_tests}
-use Rattle.mls_errorplane.proofs.Words.{AreFew, AreRight, DropsAll, DropsTo, EdgeRule, GoUp, HasStepped, IsRectangleIn, Layout, Rect, SquareSet, Stair, Steps, Takes, checked_marks, dropped, exceeds, first_piece_of, forbidden, holds, in_stair, marks_picture, piece_of, piece_side, tile_count, world}
+use Rattle.mls_errorplane.proofs.Common.{AreFew, AreRight, DropsAll, DropsTo, EdgeRule, GoUp, HasStepped, IsRectangleIn, Layout, Rect, SquareSet, Stair, Steps, Takes, checked_marks, dropped, exceeds, first_piece_of, forbidden, holds, in_stair, marks_picture, piece_of, piece_side, tile_count, world}
 use Rattle.mls_geom.proofs.Holds.{between_holds, holds_between}
 use Rattle.mls_errorplane.specs.declared.error_plane.Stepped.TheVariants as stepped
 use Rattle.mls_errorplane.proofs.PaintedPieces.{holds_inside}

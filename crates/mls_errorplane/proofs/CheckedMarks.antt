@@ -3,7 +3,7 @@ use Rattle.std.proofs.Common.{◌≡◌, ◌≢◌, ℕ, nat_lt, ◌<◌, ◌==�
 use Rattle.std.proofs.Math.Path.{fun_ext}
 use Rattle.std.proofs.lemmas.Bool.{false_from_ne_true}
 use Rattle.std.proofs.lemmas.Option.{get_or_from_slice_get, none-some, slice_get_within}
-use Rattle.mls_errorplane.proofs.Words.{AgreeOutside, Checking, EdgeRule, Finding, HasPlane, HasStepped, IsExact, Layout, Marks, Picture, Pool, Rect, Snapshot, SquareSet, Uses, checked_marks, copied_layout, dropped, first_piece_of, flat_layout, forbidden, holds, is_marked, layout_in, marks, marks_picture, picture_at, remarked, tile_count, tiles_of, within, world}
+use Rattle.mls_errorplane.proofs.Common.{AgreeOutside, Checking, EdgeRule, Finding, HasPlane, HasStepped, IsExact, Layout, Marks, Picture, Pool, Rect, Snapshot, SquareSet, Uses, checked_marks, copied_layout, dropped, first_piece_of, flat_layout, forbidden, holds, is_marked, layout_in, marks, marks_picture, picture_at, remarked, tile_count, tiles_of, within, world}
 use Rattle.mls_stitch.proofs.ShownTiles.{KeysDiffer-tiles_of, shown-outside}
 use Rattle.mls_layout.proofs.FlatLayouts.{flat_layout-outside}
 use Rattle.mls_checker.proofs.Locality.{forbidden_same_within}

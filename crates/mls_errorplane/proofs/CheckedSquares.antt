@@ -2,7 +2,7 @@
 use Rattle.std.proofs.Common.{◌≡◌, ℕ, Bool, false, ◌||◌, inl, inr, List, [], ◌∷◌, Option, Some, None, refl, ap, ◌∙◌, arith}
 use Rattle.std.proofs.lemmas.Bool.{and_from, both_ways, cases_Bool, cond-false, cond-true, false_from_ne_true, or_left, or_right}
 use Rattle.std.proofs.lemmas.Bool.Decides.{nat_tests}
-use Rattle.mls_errorplane.proofs.Words.{AgreeOutside, Checking, EdgeRule, IsChecked, Layout, Rect, SquareSet, check_step, checked_marks, dirtied, forbidden, grown, halo_of, holds, squares_of, world}
+use Rattle.mls_errorplane.proofs.Common.{AgreeOutside, Checking, EdgeRule, IsChecked, Layout, Rect, SquareSet, check_step, checked_marks, dirtied, forbidden, grown, halo_of, holds, squares_of, world}
 use Rattle.mls_geom.proofs.Holds.{holds_common}
 use Rattle.mls_checker.proofs.Locality.{forbidden_same_outside}
 use Rattle.mls_errorplane.specs.DirtyLists.{added, dropped, first_piece_of, squares_in, zone_round}

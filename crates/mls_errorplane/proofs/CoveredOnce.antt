@@ -5,7 +5,7 @@ use Rattle.std.specs.List.{list_any, range_with_len}
 use Rattle.std.proofs.lemmas.Bool.{both_ways, cases_Bool, cases_lt, false_from_ne_true}
 use Rattle.std.proofs.lemmas.List.Elements.{All-head, All-tail}
 use Rattle.std.proofs.lemmas.List.Sums.{sum_by-cons}
-use Rattle.mls_errorplane.specs.Words.{IsRectangleIn, Rect, columns, common, has_squares, holds, size_of}
+use Rattle.mls_errorplane.specs.Common.{IsRectangleIn, Rect, columns, common, has_squares, holds, size_of}
 use Rattle.mls_geom.proofs.Holds.{has_squares_lines, holds_between, holds_common, square_has_squares}
 use Rattle.mls_errorplane.proofs.RangeSums.{sum_by-plus}
 use Rattle.mls_errorplane.proofs.SquareCounts.{bit, count_in, count_in-agree, count_in-none, count_in-rect}

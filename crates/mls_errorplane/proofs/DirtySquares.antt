@@ -3,7 +3,7 @@ use Rattle.std.proofs.Common.{◌≡◌, ℕ, Bool, ◌||◌, true, false, cond,
 use Rattle.std.proofs.lemmas.Bool.{or_cases, or_left}
 use Rattle.std.proofs.Math.Bool.{or-false}
 use Rattle.std.proofs.lemmas.List.Folds.{list_any-append}
-use Rattle.mls_errorplane.proofs.Words.{Rect, added, holds, joined, most_areas, round_all, squares_of, united}
+use Rattle.mls_errorplane.proofs.Common.{Rect, added, holds, joined, most_areas, round_all, squares_of, united}
 use Rattle.mls_geom.proofs.JoinedRects.{holds-joined_one, holds-joined_other}
 
 -- the rectangle round all has the squares of all

@@ -3,7 +3,7 @@ use Rattle.std.proofs.Common.{◌≡◌, ℕ, zero, suc, ◌+◌, ◌-◌, ◌*�
 use Rattle.std.specs.Option.{IsSomeAnd}
 use Rattle.std.proofs.lemmas.Bool.{and_from, and_right, cases_lt, cond-false, cond-true, or_from, or_left, or_right}
 use Rattle.std.proofs.lemmas.Bool.Decides.{nat_tests}
-use Rattle.mls_errorplane.proofs.Words.{DropsAll, DropsIn, DropsTo, IsRectangleIn, Rect, Stair, Takes, dropped, first_piece_of, has_squares, holds, in_stair, piece_of, piece_side, rest_above, rest_beside, world}
+use Rattle.mls_errorplane.proofs.Common.{DropsAll, DropsIn, DropsTo, IsRectangleIn, Rect, Stair, Takes, dropped, first_piece_of, has_squares, holds, in_stair, piece_of, piece_side, rest_above, rest_beside, world}
 use Rattle.mls_geom.proofs.Holds.{holds_between}
 
 -- ---- drops

@@ -5,7 +5,7 @@ use Rattle.std.specs.List.{list_any, range_with_len}
 use Rattle.std.proofs.lemmas.Bool.{and_from, and_parts, false_from_ne_true}
 use Rattle.std.proofs.lemmas.Bool.{both_ways as contradiction}
 use Rattle.std.proofs.lemmas.Bool.Decides.{nat_tests}
-use Rattle.mls_errorplane.proofs.Words.{Direction, Directions, Down, EdgeRule, Four, IsChecked, Layout, Left, Point, Right, RightAndUp, Up, across, columns, directions_in, empty_picture, forbidden, forbids, forbids_any, forbids_space, holds, in_block, in_row, opening_checking, reaches, squares_of, world}
+use Rattle.mls_errorplane.proofs.Common.{Direction, Directions, Down, EdgeRule, Four, IsChecked, Layout, Left, Point, Right, RightAndUp, Up, across, columns, directions_in, empty_picture, forbidden, forbids, forbids_any, forbids_space, holds, in_block, in_row, opening_checking, reaches, squares_of, world}
 use Rattle.mls_kinds.specs.KindSets.{has_bit as has_type}
 use Rattle.mls_geom.proofs.Holds.{holds_between}
 use Rattle.mls_checker.proofs.ListTests.{found_in_range, list_any_same, range_finds}

@@ -6,7 +6,7 @@ use Rattle.std.proofs.lemmas.Bool.{and_from, and_parts, cases_Bool}
 use Rattle.std.proofs.lemmas.List.Elements.{All-cons, All-head, All-nil, All-tail, filter_map-append}
 use Rattle.std.proofs.lemmas.List.{take_more}
 use Rattle.std.proofs.lemmas.List.Folds.{Any-from_list_any, list_any-from_Any}
-use Rattle.mls_errorplane.proofs.Words.{AreCoveredStrips, AreInArea, HasPlane, HaveKinds, IsRectangleIn, LaidTile, MeetArea, Picture, Piece, Pool, Rect, block_at, common, empty_picture, has_squares, holds, is_marked, laid, marks_picture, overlaid, painted, picture_in, picture_of, strips_of, tiles_of, uncovered, world}
+use Rattle.mls_errorplane.proofs.Common.{AreCoveredStrips, AreInArea, HasPlane, HaveKinds, IsRectangleIn, LaidTile, MeetArea, Picture, Piece, Pool, Rect, block_at, common, empty_picture, has_squares, holds, is_marked, laid, marks_picture, overlaid, painted, picture_in, picture_of, strips_of, tiles_of, uncovered, world}
 use Rattle.mls_geom.proofs.Holds.{has_squares_lines, holds_common, square_has_squares}
 use Rattle.mls_geom.proofs.StripLists.{strips_are_listed}
 use Rattle.mls_geom.proofs.WholePlanes.{AreStrips-on_space, space}

@@ -1,7 +1,7 @@
 -- Findings of the first piece, and what they mark.
 use Rattle.std.proofs.Common.{◌≡◌, ℕ, true, List, length, Some, sym, ap, ◌∙◌}
 use Rattle.std.proofs.lemmas.Option.{same_Some}
-use Rattle.mls_errorplane.proofs.Words.{AgreeOutside, Checking, EdgeRule, Finding, IsExact, IsFresh, Layout, Rect, Snapshot, copied_layout, first_piece_of, forbidden, holds, marks, within, world}
+use Rattle.mls_errorplane.proofs.Common.{AgreeOutside, Checking, EdgeRule, Finding, IsExact, IsFresh, Layout, Rect, Snapshot, copied_layout, first_piece_of, forbidden, holds, marks, within, world}
 use Rattle.mls_errorplane.proofs.CheckedMarks.{exact-forbidden}
 
 -- the planes are as many as were copied, and show in the zone what was copied

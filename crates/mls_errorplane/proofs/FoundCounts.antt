@@ -6,7 +6,7 @@ use Rattle.std.proofs.lemmas.Bool.Decides.{nat_tests}
 use Rattle.std.proofs.lemmas.List.Elements.{All-contains, All-head, All-tail}
 use Rattle.std.proofs.lemmas.List.Folds.{Any-from_list_any, list_any-from_Any}
 use Rattle.std.proofs.lemmas.List.Sums.{sum_by-cons, sum_by_more_le}
-use Rattle.mls_errorplane.proofs.Words.{AreBlocks, AreInArea, HasPlane, IsFound, LaidTile, MeetArea, Piece, Pool, Rect, block_at, comes_first, common, holds, is_marked, marked_count, meets, picture_in, size_of, tiles_of}
+use Rattle.mls_errorplane.proofs.Common.{AreBlocks, AreInArea, HasPlane, IsFound, LaidTile, MeetArea, Piece, Pool, Rect, block_at, comes_first, common, holds, is_marked, marked_count, meets, picture_in, size_of, tiles_of}
 use Rattle.mls_stitch.proofs.Listings.{one_tile}
 use Rattle.mls_checker.proofs.Copying.{found-HasPiece}
 use Rattle.mls_errorplane.specs.PaintedMarks.{marked_part}

@@ -3,7 +3,7 @@ use Rattle.std.proofs.Common.{◌≡◌, ℕ, ◌+◌, ◌≤◌, ◌==◌, Bool
 use Rattle.std.specs.List.{list_any}
 use Rattle.std.proofs.lemmas.Bool.{and_from, cases_Bool, or_left, or_right, not_from_false}
 use Rattle.std.proofs.lemmas.List.Folds.{list_any-from_Any}
-use Rattle.mls_errorplane.proofs.Words.{HasPlane, IsRectangleIn, LaidTile, MeetArea, Pool, Rect, block_at, common, holds, is_marked, marked_count, picture_in, size_of, tiles_of, world}
+use Rattle.mls_errorplane.proofs.Common.{HasPlane, IsRectangleIn, LaidTile, MeetArea, Pool, Rect, block_at, common, holds, is_marked, marked_count, picture_in, size_of, tiles_of, world}
 use Rattle.mls_geom.proofs.InnerRects.{IsRectangleIn-itself}
 use Rattle.mls_errorplane.specs.PaintedMarks.{marked_part, space_size}
 use Rattle.mls_errorplane.proofs.CoveredOnce.{count_in-common, count_in-list, whole-from-both}

@@ -6,7 +6,7 @@ use Rattle.std.proofs.lemmas.Bool.{and_from, and_parts, false_from_ne_true}
 use Rattle.std.proofs.lemmas.List.Elements.{All-contains}
 use Rattle.std.proofs.lemmas.List.Folds.{Any-from_list_any, list_any-from_Any}
 use Rattle.std.proofs.lemmas.Option.{get_or_from_slice_get, slice_get_read, slice_get_within}
-use Rattle.mls_errorplane.proofs.Words.{Checking, EdgeRule, IsChecked, IsRectangleIn, Layout, Rect, Violation, common, forbidden, forbids, has_bit, holds, is_violated_in, meets, rule_limit, rules_in, squares_in_all, squares_of, violated_rules, violation_of, violations_in, violations_of, world}
+use Rattle.mls_errorplane.proofs.Common.{Checking, EdgeRule, IsChecked, IsRectangleIn, Layout, Rect, Violation, common, forbidden, forbids, has_bit, holds, is_violated_in, meets, rule_limit, rules_in, squares_in_all, squares_of, violated_rules, violation_of, violations_in, violations_of, world}
 use Rattle.mls_geom.proofs.Ascending.{Contains-filter}
 use Rattle.mls_geom.proofs.Holds.{holds_common, square_has_squares}
 use Rattle.mls_geom.proofs.Squares.{Contains-range_with_len}

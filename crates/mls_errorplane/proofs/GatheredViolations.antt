@@ -5,7 +5,7 @@ use Rattle.std.proofs.Math.Path.{fun_ext}
 use Rattle.std.proofs.lemmas.List.Elements.{All-head, All-tail, filter_passes}
 use Rattle.std.proofs.lemmas.Option.{get_or_from_slice_get, slice_get_within}
 use Rattle.std.specs.List.{range_with_len}
-use Rattle.mls_errorplane.proofs.Words.{AgreeOutside, EdgeRule, GainSomeViolations, GainViolations, IsRectangleIn, Layout, Rect, Violation, areas_at, forbids, has_bit, holds, listed_violation, rule_limit, rules_in, set_strips, squares_of, squares_within, violated_rules, violation_of, violations_in, violations_of, within, world, zone_of}
+use Rattle.mls_errorplane.proofs.Common.{AgreeOutside, EdgeRule, GainSomeViolations, GainViolations, IsRectangleIn, Layout, Rect, Violation, areas_at, forbids, has_bit, holds, listed_violation, rule_limit, rules_in, set_strips, squares_of, squares_within, violated_rules, violation_of, violations_in, violations_of, within, world, zone_of}
 use Rattle.mls_errorplane.proofs.ViolatedNear.{forbids-zone}
 
 -- ---- zones

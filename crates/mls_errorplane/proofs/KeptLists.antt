@@ -2,7 +2,7 @@
 use Rattle.std.proofs.Common.{◌≡◌, ◌<◌, Bool, true, false, cond, List, [], ◌∷◌, ◌++◌, length, All, refl, inl, inr, subst, sym, arith}
 use Rattle.std.proofs.lemmas.Bool.{cases_lt}
 use Rattle.std.proofs.lemmas.List.Elements.{All-append, All-cons, All-head, All-nil, All-tail}
-use Rattle.mls_errorplane.proofs.Words.{IsDirtyList, IsRectangleIn, Rect, dropped, has_squares, joined, most_areas, rest_above, rest_beside, round_all, united, world}
+use Rattle.mls_errorplane.proofs.Common.{IsDirtyList, IsRectangleIn, Rect, dropped, has_squares, joined, most_areas, rest_above, rest_beside, round_all, united, world}
 use Rattle.mls_geom.proofs.Holds.{has_squares_lines}
 use Rattle.mls_geom.proofs.JoinedRects.{joined-IsRectangleIn}
 

@@ -5,6 +5,7 @@ pub mod CarriedMarks
 pub mod CarriedSteps
 pub mod CheckedMarks
 pub mod CheckedSquares
+pub mod Common
 pub mod CountedStrips
 pub mod CoveredOnce
 pub mod DirtySquares
@@ -38,4 +39,3 @@ pub mod StretchSteps
 pub mod ToldSquares
 pub mod ViolatedNear
 pub mod ViolatedParts
-pub mod Words

@@ -2,7 +2,7 @@
 use Rattle.std.proofs.Common.{◌≡◌, ℕ, ◌-◌, ◌*◌, ◌≤◌, Bool, true, false, get_or, All, refl, sym, subst, arith, count_by, sum_by}
 use Rattle.std.proofs.lemmas.List.FromFn.{length-range_with_len}
 use Rattle.std.proofs.lemmas.List.Sums.{count_by-le-length, sum_by-le}
-use Rattle.mls_errorplane.proofs.Words.{Picture, Rect, columns, is_marked, marked_count, rows}
+use Rattle.mls_errorplane.proofs.Common.{Picture, Rect, columns, is_marked, marked_count, rows}
 
 -- tests that pass at the same time are one
 pub same_test : (a b : Bool) → (a ≡ true → b ≡ true) → (b ≡ true → a ≡ true) → a ≡ b

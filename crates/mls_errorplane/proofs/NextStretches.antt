@@ -1,7 +1,7 @@
 -- The first pieces of an area are the next ones of the list.
 use Rattle.std.proofs.Common.{◌≡◌, ℕ, ◌+◌, ◌-◌, ◌*◌, ◌<◌, ◌≤◌, min, nat_lt, Bool, true, false, true≢false, cond, if◌then◌else◌, List, [], ◌∷◌, ◌++◌, length, get_or, Option, Some, None, refl, sym, ap, subst, ◌∙◌, arith, option_to_list}
 use Rattle.std.proofs.Math.Nat.{one-le-mul}
-use Rattle.mls_errorplane.proofs.Words.{DropsAll, IsNext, IsRectangleIn, Rect, Stretch, has_squares, piece_side, world}
+use Rattle.mls_errorplane.proofs.Common.{DropsAll, IsNext, IsRectangleIn, Rect, Stretch, has_squares, piece_side, world}
 use Rattle.mls_errorplane.proofs.DroppedRows.{from_column, from_row, row-DropsAll, rows-DropsAll, with_area}
 
 -- what holds of the first area's list holds of the list

@@ -1,7 +1,7 @@
 -- Pieces for the squares that areas have of a part.
 use Rattle.std.proofs.Common.{◌≡◌, ℕ, ◌+◌, ◌<◌, Bool, ◌||◌, true, false, List, [], ◌∷◌, ◌++◌, length, length-append, get_or, take, refl, sym, ap, subst, ◌∙◌, arith}
 use Rattle.std.proofs.lemmas.List.Folds.{list_any_more}
-use Rattle.mls_errorplane.proofs.Words.{IsRectangleIn, Paints, Piece, Rect, SquareSet, common, has_squares, holds, squares_of, world}
+use Rattle.mls_errorplane.proofs.Common.{IsRectangleIn, Paints, Piece, Rect, SquareSet, common, has_squares, holds, squares_of, world}
 use Rattle.mls_geom.proofs.Holds.{has_squares_lines}
 use Rattle.mls_geom.proofs.InnerRects.{IsRectangleIn-itself}
 use Rattle.mls_errorplane.proofs.CoveredOnce.{in_common, not_common}

@@ -1,7 +1,7 @@
 -- Pieces that mark more and more squares.
 use Rattle.std.proofs.Common.{◌≡◌, ℕ, Bool, ◌||◌, true, false, cond, List, [], ◌∷◌, ◌++◌, refl, ap, ◌∙◌, arith}
 use Rattle.std.proofs.Math.Path.{fun_ext}
-use Rattle.mls_errorplane.proofs.Words.{IsRectangleIn, Paints, Picture, Piece, Rect, SquareSet, holds, overlaid, remarked}
+use Rattle.mls_errorplane.proofs.Common.{IsRectangleIn, Paints, Picture, Piece, Rect, SquareSet, holds, overlaid, remarked}
 use Rattle.mls_geom.proofs.Holds.{between_holds, holds_between}
 use Rattle.mls_geom.proofs.Overlays.{overlaid_append}
 

@@ -3,7 +3,7 @@ use Rattle.std.proofs.Common.{◌≡◌, ℕ, ◌<◌, ◌≤◌, max, not, true
 use Rattle.std.proofs.lemmas.Bool.{and_parts, cases_lt}
 use Rattle.std.proofs.lemmas.List.{get_or-map, length-map}
 use Rattle.std.proofs.lemmas.List.Elements.{All-contains, All-map}
-use Rattle.mls_errorplane.specs.Words.{HasStrips, IsStrip, LaidTile, MeetArea, Picture, Piece, Pool, Rect, block_at, blocks_of, goes_on_below, holds, is_corner, picture_in, starts_run, tile_count, tiles_of, world}
+use Rattle.mls_errorplane.specs.Common.{HasStrips, IsStrip, LaidTile, MeetArea, Picture, Piece, Pool, Rect, block_at, blocks_of, goes_on_below, holds, is_corner, picture_in, starts_run, tile_count, tiles_of, world}
 use Rattle.mls_geom.proofs.Ascending.{Contains-map}
 use Rattle.mls_geom.proofs.Corners.{corner-IsStrip}
 use Rattle.mls_geom.proofs.Holds.{between_holds, holds_between}

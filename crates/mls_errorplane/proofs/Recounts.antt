@@ -1,6 +1,6 @@
 -- How many squares are marked, once those of a piece were marked anew.
 use Rattle.std.proofs.Common.{◌≡◌, ℕ, ◌+◌, ◌-◌, ◌≤◌, sym, subst, arith}
-use Rattle.mls_errorplane.proofs.Words.{ErrorPlane, Picture, Pool, ShowsMarks, marked_count, picture_in, world}
+use Rattle.mls_errorplane.proofs.Common.{ErrorPlane, Picture, Pool, ShowsMarks, marked_count, picture_in, world}
 use Rattle.mls_errorplane.proofs.MarkCounts.{marked_count-le}
 
 -- what was counted is what the plane shows, under any names of the plane and the pool

@@ -2,7 +2,7 @@
 use Rattle.std.proofs.Common.{◌≡◌, ℕ, ◌+◌, ◌-◌, ◌<◌, ◌≤◌, ◌==◌, Bool, ◌||◌, ◌&&◌, not, true, false, cond, refl, sym, ap, ◌∙◌, arith, sum_by}
 use Rattle.std.specs.List.{range_with_len}
 use Rattle.std.proofs.lemmas.Bool.{cond-false}
-use Rattle.mls_errorplane.proofs.Words.{IsRectangleIn, Picture, Rect, SquareSet, columns, empty_picture, holds, is_marked, marked_count, remarked, square_count, world}
+use Rattle.mls_errorplane.proofs.Common.{IsRectangleIn, Picture, Rect, SquareSet, columns, empty_picture, holds, is_marked, marked_count, remarked, square_count, world}
 use Rattle.mls_geom.proofs.CornerCounts.{sum_by-between, sum_by-none}
 use Rattle.mls_geom.proofs.Holds.{between_holds, holds_between}
 use Rattle.mls_errorplane.proofs.RangeSums.{sum_by-agree}

@@ -1,6 +1,6 @@
 -- How listing strips may fail.
 use Rattle.std.proofs.Common.{◌≡◌, Result, Ok, Err, IfErr, IsErr, IsErrAnd}
-use Rattle.mls_errorplane.specs.Words.{IfTooMany, Unlisted}
+use Rattle.mls_errorplane.specs.Common.{IfTooMany, Unlisted}
 use Rattle.mls_layout.specs.declared.strips.Unlisted.TheVariants.{Memory, TooMany}
 
 -- what holds, holds where there are too many strips

@@ -8,7 +8,7 @@ use Rattle.std.proofs.lemmas.List.{length-map}
 use Rattle.std.proofs.lemmas.List.Elements.{All-contains, All-filter, filter_passes}
 use Rattle.std.proofs.lemmas.List.Folds.{Any-from_list_any, list_any-from_Any, list_any_more}
 use Rattle.std.proofs.lemmas.List.Kept.{AllPairs-filter}
-use Rattle.mls_errorplane.proofs.Words.{AreCoveredStrips, Covers, IsRun, IsStrip, Picture, Piece, Rect, SquareSet, comes_before, common, covered_count, has_squares, holds, laid, marks_picture, set_strips, squares_of, squares_within, strips_of, uncovered, world}
+use Rattle.mls_errorplane.proofs.Common.{AreCoveredStrips, Covers, IsRun, IsStrip, Picture, Piece, Rect, SquareSet, comes_before, common, covered_count, has_squares, holds, laid, marks_picture, set_strips, squares_of, squares_within, strips_of, uncovered, world}
 use Rattle.mls_geom.proofs.Ascending.{Contains-filter, same_ascending}
 use Rattle.mls_geom.proofs.CoveredCounts.{covered_strips_number}
 use Rattle.mls_geom.proofs.Holds.{between_holds, holds_common, square_has_squares}

@@ -3,7 +3,7 @@ use Rattle.std.proofs.Common.{◌≡◌, ℕ, ◌+◌, ◌-◌, ◌<◌, true, i
 use Rattle.std.proofs.Math.Path.{fun_ext}
 use Rattle.std.proofs.lemmas.Bool.{both_ways, cases_Bool, cond-false, cond-true, false_from_ne_true}
 use Rattle.std.proofs.lemmas.List.Elements.{All-contains, All-push}
-use Rattle.mls_errorplane.proofs.Words.{Finding, HasPlane, IsRectangleIn, IsWithin, LaidTile, Marks, MeetArea, Paints, Piece, Pool, Rect, ShowsBeside, SquareSet, block_at, has_squares, holds, marks, overlaid, picture_in, remarked, tiles_of}
+use Rattle.mls_errorplane.proofs.Common.{Finding, HasPlane, IsRectangleIn, IsWithin, LaidTile, Marks, MeetArea, Paints, Piece, Pool, Rect, ShowsBeside, SquareSet, block_at, has_squares, holds, marks, overlaid, picture_in, remarked, tiles_of}
 use Rattle.mls_geom.proofs.Holds.{between_holds, has_squares_lines, holds_between}
 use Rattle.mls_checker.proofs.Copying.{found-HasPiece}
 use Rattle.mls_checker.proofs.Prefixes.{take_next}

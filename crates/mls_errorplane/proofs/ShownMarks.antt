@@ -5,7 +5,7 @@ use Rattle.std.proofs.Math.Path.{fun_ext}
 use Rattle.std.proofs.lemmas.Bool.{and_from, cases_Bool, cond-false, cond-true, or_left, or_right}
 use Rattle.std.proofs.lemmas.List.Elements.{All-contains}
 use Rattle.std.proofs.lemmas.List.Folds.{list_any_at, list_any-from_Any}
-use Rattle.mls_errorplane.proofs.Words.{Finding, HasPlane, IsSettled, LaidTile, Marks, MeetArea, Picture, Pool, Rect, ShowsSet, SquareSet, block_at, common, holds, marks, picture_in, remarked, size_of, space_size, square_count, tiles_of}
+use Rattle.mls_errorplane.proofs.Common.{Finding, HasPlane, IsSettled, LaidTile, Marks, MeetArea, Picture, Pool, Rect, ShowsSet, SquareSet, block_at, common, holds, marks, picture_in, remarked, size_of, space_size, square_count, tiles_of}
 use Rattle.mls_checker.proofs.Copying.{found-HasPiece}
 use Rattle.mls_errorplane.proofs.CoveredOnce.{apart-from_counts, count_in-common, count_in-list}
 use Rattle.mls_errorplane.proofs.SquareCounts.{count_in, count_in-none}

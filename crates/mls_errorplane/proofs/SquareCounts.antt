@@ -1,7 +1,7 @@
 -- Numbers of squares of sets in an extent.
 use Rattle.std.proofs.Common.{◌≡◌, ℕ, ◌+◌, ◌-◌, ◌*◌, ◌<◌, ◌≤◌, Bool, ◌||◌, true, false, cond, refl, ap, arith, sum_by}
 use Rattle.std.proofs.lemmas.Bool.{false_from_ne_true}
-use Rattle.mls_errorplane.specs.Words.{IsRectangleIn, Rect, columns, holds, rows, size_of}
+use Rattle.mls_errorplane.specs.Common.{IsRectangleIn, Rect, columns, holds, rows, size_of}
 use Rattle.mls_geom.proofs.CornerCounts.{sum_by-none}
 use Rattle.mls_geom.proofs.Holds.{between_holds, holds_between}
 use Rattle.mls_errorplane.proofs.RangeSums.{sum_by-agree, sum_by-part, sum_by-plus}

@@ -3,7 +3,7 @@ use Rattle.std.proofs.Common.{◌≡◌, ◌⊎◌, ℕ, zero, suc, ◌+◌, ◌
 use Rattle.std.specs.List.{prefix_len, range_with_len}
 use Rattle.std.proofs.lemmas.Bool.{and_from, and_left, and_parts, both_ways, cases_Bool, cases_lt, cond-false, cond-true, eqb-false, false_from_ne_true, not-true, not_from_false, or_left}
 use Rattle.std.proofs.lemmas.List.Sums.{sum_by-cons}
-use Rattle.mls_errorplane.specs.Words.{Picture, Rect, goes_on_below, is_corner, run_end, starts_run}
+use Rattle.mls_errorplane.specs.Common.{Picture, Rect, goes_on_below, is_corner, run_end, starts_run}
 use Rattle.mls_geom.proofs.CornerCounts.{sum_by-cut}
 use Rattle.mls_geom.proofs.RunTests.{IsRun-from_tests, front, front_begins, front_ends, front_passes, front_stops, left-starts_run}
 

@@ -1,7 +1,7 @@
 -- The strips of two pictures along a stair.
 use Rattle.std.proofs.Common.{◌≡◌, ℕ, ◌+◌, ◌-◌, ◌*◌, ◌<◌, ◌≤◌, ◌==◌, ◌&&◌, Bool, true, false, cond, if◌then◌else◌, nat_le, nat_lt, refl, sym, ap, ◌∙◌, inl, inr, le_refl, arith, eq-eqb, eqb-true, lt-ltb, sum_by, le-leb, le-ltb}
 use Rattle.std.proofs.lemmas.Bool.{and_from, and_left, and_right, cases_Bool, cases_lt, cond-false, cond-true, or_from, or_left, or_right}
-use Rattle.mls_errorplane.proofs.Words.{Picture, Rect, columns, in_stair, is_corner, rows, tile_count}
+use Rattle.mls_errorplane.proofs.Common.{Picture, Rect, columns, in_stair, is_corner, rows, tile_count}
 use Rattle.mls_errorplane.proofs.RangeSums.{sum_by-plus}
 use Rattle.mls_errorplane.proofs.StairCorners.{AgreeLeft, IsAsBelow, corner, corner-IsAsBelow, corner-left, corner_above_corners, from_row, is_corner-agree, is_corner-from_row, starts_run-agree, touches_cut, touches_cut-once}
 use Rattle.mls_errorplane.proofs.StairSums.{TurnsAt, in_band, sum_by-in_band, sum_by-le, sum_by-once, sum_by-transposed, sum_by-TurnsAt, sum_by-zero}

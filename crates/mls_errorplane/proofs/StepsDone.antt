@@ -1,6 +1,6 @@
 -- Check steps one after another: what they keep, and that they come to an end.
 use Rattle.std.proofs.Common.{◌≡◌, ◌≢◌, ℕ, zero, suc, ◌+◌, ◌*◌, ◌^◌, ◌<◌, ◌≤◌, List, [], ◌∷◌, length, get_or, Option, None, IfSome, refl, sym, ap, subst, arith}
-use Rattle.mls_errorplane.proofs.Words.{AfterSteps, CaughtUp, ChangesAmong, ChangesOnly, Checking, EdgeRule, FitsWorkspace, HasCaughtUp, HasLayout, HasStepped, IsChecked, IsDirtyList, Layout, Library, Pool, Rect, StandsApart, Stepped, Steps, UnlessDone, Uses, area_of, dropped, first_piece_of, flat_layout, shown, tile_room}
+use Rattle.mls_errorplane.proofs.Common.{AfterSteps, CaughtUp, ChangesAmong, ChangesOnly, Checking, EdgeRule, FitsWorkspace, HasCaughtUp, HasLayout, HasStepped, IsChecked, IsDirtyList, Layout, Library, Pool, Rect, StandsApart, Stepped, Steps, UnlessDone, Uses, area_of, dropped, first_piece_of, flat_layout, shown, tile_room}
 use Rattle.mls_stitch.proofs.Laying.{room_of-ChangesOnly}
 use Rattle.mls_stitch.proofs.OtherPlanes.{HasPlane-ChangesOnly}
 use Rattle.mls_paint.proofs.OwnerFrames.{ChangesAmong-ChangesOnly, layout_in-kept}

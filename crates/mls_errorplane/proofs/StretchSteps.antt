@@ -3,7 +3,7 @@ use Rattle.std.proofs.Common.{◌≡◌, ◌≢◌, ℕ, zero, suc, ◌+◌, ◌
 use Rattle.std.specs.Option.{IsSomeAnd}
 use Rattle.std.proofs.Math.Path.{fun_ext}
 use Rattle.std.proofs.lemmas.Bool.{cases_Bool, cond-false, cond-true}
-use Rattle.mls_errorplane.proofs.Words.{AreRight, AreRightIn, Checked, Checking, DropsIn, EdgeRule, ErrorPlane, Finding, HasFinished, HasStepped, HasStrips, IsAlike, IsDirtyList, IsRectangleIn, Layout, Likeness, Outcome, Picture, Pool, Rect, ShowsAlike, ShowsMarks, SquareSet, Steps, Tells, area_of, check_step, checked_marks, dropped, exceeds, first_piece_of, forbidden, holds, is_marked, joined, like_column, like_row, marked_count, marks_picture, picture_in, piece_of, world}
+use Rattle.mls_errorplane.proofs.Common.{AreRight, AreRightIn, Checked, Checking, DropsIn, EdgeRule, ErrorPlane, Finding, HasFinished, HasStepped, HasStrips, IsAlike, IsDirtyList, IsRectangleIn, Layout, Likeness, Outcome, Picture, Pool, Rect, ShowsAlike, ShowsMarks, SquareSet, Steps, Tells, area_of, check_step, checked_marks, dropped, exceeds, first_piece_of, forbidden, holds, is_marked, joined, like_column, like_row, marked_count, marks_picture, picture_in, piece_of, world}
 use Rattle.mls_geom.proofs.JoinedRects.{holds-joined_one, holds-joined_other, joined-IsRectangleIn}
 use Rattle.mls_layout.proofs.LentPlanes.{lent, lent-same}
 use Rattle.mls_errorplane.specs.declared.error_plane.Stepped.TheVariants as stepped

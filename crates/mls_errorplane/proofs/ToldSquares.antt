@@ -1,6 +1,6 @@
 -- Rectangles that have the squares which show what those of another one show.
 use Rattle.std.proofs.Common.{◌≡◌, arith}
-use Rattle.mls_errorplane.proofs.Words.{Columns, IsRectangleIn, Rect, Rows, Tells}
+use Rattle.mls_errorplane.proofs.Common.{Columns, IsRectangleIn, Rect, Rows, Tells}
 use Rattle.mls_geom.proofs.Holds.{between_holds, holds_between}
 
 -- for columns one of the same columns

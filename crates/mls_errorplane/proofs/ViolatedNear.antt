@@ -2,7 +2,7 @@
 use Rattle.std.proofs.Common.{◌≡◌, ℕ, ◌-◌, ◌≤◌, Bool, true, false, ◌||◌, ◌&&◌, inl, inr, List, [], ◌∷◌, Option, Some, None, slice_get, Contains, refl, sym, ◌∙◌, arith}
 use Rattle.std.proofs.lemmas.Bool.{both_ways, cases_Bool, cond-false, cond-true, false_from_ne_true}
 use Rattle.std.proofs.lemmas.Option.{get_or_from_slice_get, slice_get_within}
-use Rattle.mls_errorplane.specs.Words.{AgreeIn, AgreeOutside, EdgeRule, IsRectangleIn, Layout, Rect, common, forbids, forbids_in, grown, halo_of, holds, is_violated_in, surroundings, violated_rules, within, world, zone_of}
+use Rattle.mls_errorplane.specs.Common.{AgreeIn, AgreeOutside, EdgeRule, IsRectangleIn, Layout, Rect, common, forbids, forbids_in, grown, halo_of, holds, is_violated_in, surroundings, violated_rules, within, world, zone_of}
 use Rattle.mls_geom.proofs.Holds.{between_holds, holds_between}
 use Rattle.mls_kinds.proofs.BitLemmas.{bits_where_same}
 use Rattle.mls_checker.proofs.ListTests.{list_any_same_in_range}

@@ -2,7 +2,7 @@
 use Rattle.std.proofs.Common.{◌≡◌, ℕ, ◌||◌, inl, inr, List, Option, Some, None, slice_get, refl, sym, ◌∙◌}
 use Rattle.std.specs.Cmp.{both_ways as same_if}
 use Rattle.std.proofs.lemmas.Bool.{or_cases, or_left, or_right}
-use Rattle.mls_errorplane.specs.Words.{EdgeRule, Layout, Rect, SquareSet, has_some, holds, is_violated_in, union, violated_rules}
+use Rattle.mls_errorplane.specs.Common.{EdgeRule, Layout, Rect, SquareSet, has_some, holds, is_violated_in, union, violated_rules}
 use Rattle.mls_edgerule.proofs.RuleSetLemmas.{union-bits_where}
 use Rattle.mls_kinds.proofs.BitLemmas.{bits_where_same}
 use Rattle.mls_checker.proofs.FoundInRect.{found_in_rect, rect_finds}

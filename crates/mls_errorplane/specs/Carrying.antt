@@ -1,6 +1,6 @@
 -- Marks that are carried from a rectangle to another one, in which the layout shows the same. This project's own.
 use Rattle.std.specs.Prelude.{◌≡◌, ◌+◌, ◌*◌, ◌<◌, ◌≤◌, ℕ, max, min, Bool, true, false}
-use Rattle.mls_errorplane.specs.Words.{LaidTile, Likeness, Picture, Piece, Rect, Spans, SquareSet, holds, like_column, like_row, tile_count, world}
+use Rattle.mls_errorplane.specs.Common.{LaidTile, Likeness, Picture, Piece, Rect, Spans, SquareSet, holds, like_column, like_row, tile_count, world}
 use Rattle.mls_errorplane.specs.DirtyLists.{piece_side}
 use Rattle.mls_errorplane.specs.ErrorPlanes.{marks_picture}
 use Rattle.mls_errorplane.specs.MarkPlanes.{is_marked}

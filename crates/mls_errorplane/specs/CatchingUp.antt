@@ -1,6 +1,6 @@
 -- Check steps one after another, until no area awaits checking or a step isn't done.
 use Rattle.std.specs.Prelude.{◌≡◌, ◌≢◌, ℕ, zero, suc, true, List, []}
-use Rattle.mls_errorplane.specs.Words.{EdgeRule, Layout}
+use Rattle.mls_errorplane.specs.Common.{EdgeRule, Layout}
 use Rattle.mls_errorplane.specs.Checkings.{Checking, check_step}
 use Rattle.mls_errorplane.specs.ErrorPlanes.{HasStepped, exceeds}
 use Rattle.mls_errorplane.specs.declared.catching_up.CaughtUp.{CaughtUp}

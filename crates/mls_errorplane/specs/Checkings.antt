@@ -2,7 +2,7 @@
 -- Ousterhout 1984: an incremental checker).
 use Rattle.std.specs.Prelude.{◌≡◌, ℕ, Bool, true, false, if◌then◌else◌, List, [], ◌∷◌, Option, Some, None}
 use Rattle.std.specs.List.{list_any}
-use Rattle.mls_errorplane.specs.Words.{EdgeRule, Layout, Rect, SquareSet, columns, empty_picture, forbidden, halo_of, holds, no_squares, rows, squares_of, world}
+use Rattle.mls_errorplane.specs.Common.{EdgeRule, Layout, Rect, SquareSet, columns, empty_picture, forbidden, halo_of, holds, no_squares, rows, squares_of, world}
 use Rattle.mls_errorplane.specs.DirtyLists.{added, dropped, first_piece_of, zone_round}
 
 -- the marked squares, and the areas that await checking

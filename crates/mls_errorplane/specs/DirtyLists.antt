@@ -1,7 +1,7 @@
 -- The areas of a layout that await checking (after Taylor and Ousterhout 1984), as a list of rectangles. How many there may be, and in which pieces they
 -- are checked, is this project's own.
 use Rattle.std.specs.Prelude.{ℕ, ◌+◌, ◌-◌, ◌<◌, ◌≤◌, min, Bool, false, nat_lt, if◌then◌else◌, List, [], ◌∷◌, ◌++◌, length, filter, Option, Some, None, All, fold, sum_by}
-use Rattle.mls_errorplane.specs.Words.{IsRectangleIn, Rect, common, grown, has_squares, holds, joined, size_of, world}
+use Rattle.mls_errorplane.specs.Common.{IsRectangleIn, Rect, common, grown, has_squares, holds, joined, size_of, world}
 
 -- a list to which an area is added becomes one area where it has more than these
 abbrev pub most_areas : ℕ

@@ -1,6 +1,6 @@
 -- A layout's error plane, and its areas that await checking.
 use Rattle.std.specs.Prelude.{◌≡◌, ◌≢◌, ℕ, ◌≤◌, Bool, nat_lt, true, false, if◌then◌else◌, List, [], ◌∷◌, IfSome, Result, Ok, Err, ⊤, All, Contains}
-use Rattle.mls_errorplane.specs.Words.{EdgeRule, FitsWorkspace, HasStrips, Layout, Library, Picture, Pool, Rect, SquareSet, picture_in, room_of, tile_count, world}
+use Rattle.mls_errorplane.specs.Common.{EdgeRule, FitsWorkspace, HasStrips, Layout, Library, Picture, Pool, Rect, SquareSet, picture_in, room_of, tile_count, world}
 use Rattle.mls_errorplane.specs.Checkings.{Checking, check_step}
 use Rattle.mls_errorplane.specs.MarkPlanes.{is_marked, marked_count}
 use Rattle.mls_errorplane.specs.declared.error_plane.Stepped.{Stepped}

@@ -1,6 +1,6 @@
 -- What a rectangle has of the marks, and of the areas that await checking. This project's own.
 use Rattle.std.specs.Prelude.{◌&&◌, ◌==◌, if◌then◌else◌, Option, None, List, filter_map, option_map}
-use Rattle.mls_errorplane.specs.Words.{LaidTile, Piece, Rect, SquareSet, clipped, holds}
+use Rattle.mls_errorplane.specs.Common.{LaidTile, Piece, Rect, SquareSet, clipped, holds}
 
 -- the squares of the set that lie in the rectangle
 abbrev pub squares_in : Rect → SquareSet → SquareSet

@@ -1,6 +1,6 @@
 -- What a check outside an error plane takes with it: the first piece, and the layout in its zone. This project's own.
 use Rattle.std.specs.Prelude.{◌≡◌, ◌≢◌, ℕ, List, [], length, Option, Some, None, Result, Ok, Err}
-use Rattle.mls_errorplane.specs.Words.{EdgeRule, Layout, copied_layout, within, zone_of}
+use Rattle.mls_errorplane.specs.Common.{EdgeRule, Layout, copied_layout, within, zone_of}
 use Rattle.mls_errorplane.specs.Checkings.{Checking}
 use Rattle.mls_errorplane.specs.DirtyLists.{first_piece_of}
 use Rattle.mls_errorplane.specs.declared.job.Job.{Job}

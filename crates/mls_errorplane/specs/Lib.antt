@@ -1,6 +1,7 @@
 pub mod Carrying
 pub mod CatchingUp
 pub mod Checkings
+pub mod Common
 pub mod DirtyLists
 pub mod EmptyLayouts
 pub mod ErrorPlanes
@@ -12,4 +13,3 @@ pub mod Outcomes
 pub mod PaintedMarks
 pub mod Stretches
 pub mod Violations
-pub mod Words

@@ -1,7 +1,7 @@
 -- Error planes (Taylor and Ousterhout 1984: errors are kept with the layout, as tiles of a plane of their own). A square of kind 0 isn't marked, and one
 -- of any other kind is.
 use Rattle.std.specs.Prelude.{ℕ, ◌+◌, Bool, not, ◌==◌, if◌then◌else◌, count_by, sum_by}
-use Rattle.mls_errorplane.specs.Words.{Picture, Rect, SquareSet, columns, holds, rows, runs_of_rows}
+use Rattle.mls_errorplane.specs.Common.{Picture, Rect, SquareSet, columns, holds, rows, runs_of_rows}
 
 -- the square is marked
 abbrev pub is_marked : Picture → ℕ → ℕ → Bool

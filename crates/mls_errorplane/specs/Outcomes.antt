@@ -1,6 +1,6 @@
 -- How finishing ends, where a finding was made outside an error plane. This project's own.
 use Rattle.std.specs.Prelude.{◌≡◌, ℕ, true, false, List, length, Some, ⊤}
-use Rattle.mls_errorplane.specs.Words.{EdgeRule, Finding, Layout, copied_layout, within}
+use Rattle.mls_errorplane.specs.Common.{EdgeRule, Finding, Layout, copied_layout, within}
 use Rattle.mls_errorplane.specs.Checkings.{Checking, check_step}
 use Rattle.mls_errorplane.specs.DirtyLists.{first_piece_of}
 use Rattle.mls_errorplane.specs.ErrorPlanes.{exceeds}

@@ -1,6 +1,6 @@
 -- What pieces paint on an error plane, and what its tiles show already. No public contract names these.
 use Rattle.std.specs.Prelude.{◌≡◌, ◌≢◌, ℕ, ◌==◌, true, false, if◌then◌else◌, List}
-use Rattle.mls_errorplane.specs.Words.{LaidTile, Picture, Piece, Rect, SquareSet, common, holds, overlaid, size_of}
+use Rattle.mls_errorplane.specs.Common.{LaidTile, Picture, Piece, Rect, SquareSet, common, holds, overlaid, size_of}
 use Rattle.mls_errorplane.specs.MarkPlanes.{remarked}
 
 -- painted over any picture, the pieces mark the squares of the rectangle as the set says, and change no others

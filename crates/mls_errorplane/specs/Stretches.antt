@@ -1,7 +1,7 @@
 -- Pieces that are checked as one, since each plane shows the same round all of them as round pieces whose marks are right. This project's own.
 use Rattle.std.specs.Prelude.{◌≡◌, ◌+◌, ◌<◌, ◌≤◌, ℕ, zero, suc, nat_lt, Bool, ◌&&◌, ◌||◌, true, false, List, [], ◌∷◌, ◌++◌, Option, option_to_list}
 use Rattle.std.specs.Option.{IsSomeAnd}
-use Rattle.mls_errorplane.specs.Words.{EdgeRule, IsRectangleIn, Layout, Likeness, Rect, ShowsAlike, SquareSet, forbidden, halo_of, holds, like_column, like_row}
+use Rattle.mls_errorplane.specs.Common.{EdgeRule, IsRectangleIn, Layout, Likeness, Rect, ShowsAlike, SquareSet, forbidden, halo_of, holds, like_column, like_row}
 use Rattle.mls_errorplane.specs.DirtyLists.{dropped, first_piece_of, piece_side}
 use Rattle.mls_errorplane.specs.declared.checked.Checked.{Checked}
 use Rattle.mls_errorplane.specs.ErrorPlanes.{exceeds}

@@ -1,7 +1,7 @@
 -- What rules forbid in a rectangle of a layout, rule by rule, as maximal strips. This project's own.
 use Rattle.std.specs.Prelude.{ℕ, ◌≡◌, ◌-◌, ◌&&◌, ◌==◌, if◌then◌else◌, List, map, filter, length, slice_get, sum_by}
 use Rattle.std.specs.List.{list_any}
-use Rattle.mls_errorplane.specs.Words.{EdgeRule, Layout, Picture, Rect, SquareSet, areas_at, holds, rules_in, squares_of, strips_of, uncovered, violated_rules, violations_of, world}
+use Rattle.mls_errorplane.specs.Common.{EdgeRule, Layout, Picture, Rect, SquareSet, areas_at, holds, rules_in, squares_of, strips_of, uncovered, violated_rules, violations_of, world}
 use Rattle.mls_errorplane.specs.ErrorPlanes.{marks_picture}
 
 -- the maximal strips of the squares that a set has in the world, by bottom and then left

@@ -1,6 +1,6 @@
 //! Carrying marks from pieces that were checked to others.
 ghost use Rattle.std.specs.Prelude.{◌≡◌, ◌+◌, ◌*◌, ◌≤◌, ◌<◌, true, false, IfOk, IfSome, IsTrue, OnErr, OnOk, length, map, vec_capacity, All};
-ghost use Rattle.mls_errorplane.specs.Words.{ChangesOnly, HasPlane, HasRoomFor, HasStrips, IsRectangleIn, KeepsRoom, overlaid, picture_in, room_of, tile_count, world};
+ghost use Rattle.mls_errorplane.specs.Common.{ChangesOnly, HasPlane, HasRoomFor, HasStrips, IsRectangleIn, KeepsRoom, overlaid, picture_in, room_of, tile_count, world};
 ghost use Rattle.mls_errorplane.specs.DirtyLists.{piece_side};
 ghost use Rattle.mls_errorplane.specs.ErrorPlanes.{HasMarks, ShowsMarks, checking_of, marks_picture};
 ghost use Rattle.mls_errorplane.specs.MarkPlanes.{is_marked, marked_count};

@@ -1,6 +1,6 @@
 //! Checking all areas of a layout that await it.
 ghost use Rattle.std.specs.Prelude.{◌≡◌};
-ghost use Rattle.mls_errorplane.specs.Words.{ChangesOnly, HasLayout, flat_layout};
+ghost use Rattle.mls_errorplane.specs.Common.{ChangesOnly, HasLayout, flat_layout};
 ghost use Rattle.mls_errorplane.specs.CatchingUp.{HasCaughtUp};
 ghost use Rattle.mls_errorplane.specs.ErrorPlanes.{HasMarks, ShowsMarks, StandsApart, checking_of};
 

@@ -1,6 +1,6 @@
 //! What layouts are checked by.
 ghost use Rattle.std.specs.Prelude.{◌≡◌, IfOk};
-ghost use Rattle.mls_errorplane.specs.Words.{HasLayout, IsRectangleIn, copied_layout, flat_layout, within, world, zone_of};
+ghost use Rattle.mls_errorplane.specs.Common.{HasLayout, IsRectangleIn, copied_layout, flat_layout, within, world, zone_of};
 
 use crate::dirty::lies_in_world;
 use mls_checker::Snapshot;

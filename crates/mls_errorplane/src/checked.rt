@@ -1,6 +1,6 @@
 //! Pieces that were checked, from which the marks of others are known to be right.
 ghost use Rattle.std.specs.Prelude.{◌≡◌, ℕ, IfSome, IsTrue, List};
-ghost use Rattle.mls_errorplane.specs.Words.{EdgeRule, Layout, SquareSet};
+ghost use Rattle.mls_errorplane.specs.Common.{EdgeRule, Layout, SquareSet};
 ghost use Rattle.mls_errorplane.specs.Checkings.{Checking};
 ghost use Rattle.mls_errorplane.specs.Outcomes.{HasFinished};
 ghost use Rattle.mls_errorplane.specs.Stretches.{AreRight, AreRightIn, Tells};

@@ -1,6 +1,6 @@
 //! Where tiles show other marks than were found.
 ghost use Rattle.std.specs.Prelude.{◌≡◌, ℕ, true, All};
-ghost use Rattle.mls_errorplane.specs.Words.{IsWithin, holds, marks};
+ghost use Rattle.mls_errorplane.specs.Common.{IsWithin, holds, marks};
 ghost use Rattle.mls_errorplane.specs.PaintedMarks.{ShowsBeside};
 
 use crate::mark_pieces::MARKED;

@@ -1,7 +1,7 @@
 //! The list of the areas of a layout that await checking.
 ghost use Rattle.std.specs.Prelude.{◌≡◌, ◌<◌, ◌≤◌, [], IfNone, IfOk, IfSome, length};
 ghost use Rattle.std.specs.VecDeque.{deque_capacity, deque_len};
-ghost use Rattle.mls_errorplane.specs.Words.{IsRectangleIn, world};
+ghost use Rattle.mls_errorplane.specs.Common.{IsRectangleIn, world};
 ghost use Rattle.mls_errorplane.specs.MarkPlanes.{most_pieces};
 ghost use Rattle.mls_errorplane.specs.DirtyLists as spec;
 ghost use Rattle.mls_errorplane.specs.DirtyLists.{IsDirtyList, added, dropped, first_piece_of, united, zone_round};

@@ -1,6 +1,6 @@
 //! Checking a layout piece by piece, after it was edited.
 ghost use Rattle.std.specs.Prelude.{◌≡◌, ◌≤◌, ◌↔◌, ℕ, true, IfOk, IfSome, IsTrue, OnErr, Some, List, ◌+◌, ◌-◌, [], ◌∷◌, length};
-ghost use Rattle.mls_errorplane.specs.Words.{AddsOwner, ChangesOnly, EdgeRule, FitsWorkspace, HasLayout, IsExact, IsOwner, Layout, Pool, RemovesOwners, flat_layout, forbidden, holds, marks, no_squares, room_of, size_of, strips_of, tile_count, unreserved, world};
+ghost use Rattle.mls_errorplane.specs.Common.{AddsOwner, ChangesOnly, EdgeRule, FitsWorkspace, HasLayout, IsExact, IsOwner, Layout, Pool, RemovesOwners, flat_layout, forbidden, holds, marks, no_squares, room_of, size_of, strips_of, tile_count, unreserved, world};
 ghost use Rattle.mls_errorplane.specs.Checkings.{dirtied};
 ghost use Rattle.mls_errorplane.specs.DirtyLists.{IsDirtyList, first_piece_of};
 ghost use Rattle.mls_errorplane.specs.MarkPlanes.{most_pieces};

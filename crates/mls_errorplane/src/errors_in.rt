@@ -1,6 +1,6 @@
 //! The marks of a rectangle, and the areas that await checking there.
 ghost use Rattle.std.specs.Prelude.{◌≡◌, ◌∷◌, ◌<◌, ◌≤◌, IfOk, IfSome, List, length, vec_capacity, filter_map};
-ghost use Rattle.mls_errorplane.specs.Words.{AreCoveredStrips, FitsWorkspace, HasPlane, HasRoomFor, KeepsRoom, Piece, laid, picture_in, room_of, strips_of, world};
+ghost use Rattle.mls_errorplane.specs.Common.{AreCoveredStrips, FitsWorkspace, HasPlane, HasRoomFor, KeepsRoom, Piece, laid, picture_in, room_of, strips_of, world};
 ghost use Rattle.mls_errorplane.specs.ErrorPlanes.{ShowsMarks, checking_of, marks_picture};
 ghost use Rattle.mls_errorplane.specs.ErrorsIn as spec;
 ghost use Rattle.mls_errorplane.specs.ErrorsIn.{areas_in, squares_in};

@@ -1,6 +1,6 @@
 //! What rules forbid in a rectangle of a layout, whatever its size, rule by rule.
 ghost use Rattle.std.specs.Prelude.{◌≡◌, ◌<◌, ◌≤◌, ◌++◌, ◌∷◌, [], None, length, map, IfErr, IfOk, IfSome, OnOk};
-ghost use Rattle.mls_errorplane.specs.Words.{GainSomeViolations, GainViolations, HasLayout, IfTooMany, flat_layout, rules_in};
+ghost use Rattle.mls_errorplane.specs.Common.{GainSomeViolations, GainViolations, HasLayout, IfTooMany, flat_layout, rules_in};
 ghost use Rattle.mls_errorplane.specs.Halves.{AreHalves};
 ghost use Rattle.mls_errorplane.specs.Violations.{listed_violation, strip_count, violations_in};
 

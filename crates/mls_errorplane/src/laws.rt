@@ -1,6 +1,6 @@
 //! Laws of lists of areas, of marks and of checking. Each function does nothing, and its contract is the law.
 ghost use Rattle.std.specs.Prelude.{◌≡◌, ℕ, ◌+◌, ◌*◌, ◌<◌, ◌≤◌, ◌^◌, true, false, ◌||◌, ◌&&◌, if◌then◌else◌, List, [], ◌∷◌, length, All};
-ghost use Rattle.mls_errorplane.specs.Words.{AgreeOutside, EdgeRule, IsRectangleIn, Layout, Picture, Rect, SquareSet, empty_picture, forbidden, holds, meets, rule_limit, size_of, squares_of, world};
+ghost use Rattle.mls_errorplane.specs.Common.{AgreeOutside, EdgeRule, IsRectangleIn, Layout, Picture, Rect, SquareSet, empty_picture, forbidden, holds, meets, rule_limit, size_of, squares_of, world};
 ghost use Rattle.mls_errorplane.specs.Carrying.{AreFew};
 ghost use Rattle.mls_errorplane.specs.CatchingUp.{AfterSteps, Steps};
 ghost use Rattle.mls_errorplane.specs.Checkings.{Checking, IsChecked, check_step, opening_checking, dirtied};

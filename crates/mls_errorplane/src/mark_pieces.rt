@@ -1,6 +1,6 @@
 //! The pieces that paint marks on an error plane.
 ghost use Rattle.std.specs.Prelude.{◌≡◌, ◌+◌, ◌<◌, ◌≤◌, ◌||◌, length, vec_capacity};
-ghost use Rattle.mls_errorplane.specs.Words.{IsRectangleIn, SquareSet, holds, marks, no_squares, squares_of, world};
+ghost use Rattle.mls_errorplane.specs.Common.{IsRectangleIn, SquareSet, holds, marks, no_squares, squares_of, world};
 ghost use Rattle.mls_errorplane.specs.MarkPlanes.{most_pieces};
 ghost use Rattle.mls_errorplane.specs.PaintedMarks.{Paints};
 

@@ -1,6 +1,6 @@
 //! Marks on error planes.
 ghost use Rattle.std.specs.Prelude.{◌≡◌, ◌+◌, ◌<◌, ◌≤◌, ◌↔◌, IfOk, IfSome, IsErr, OnErr, OnOk, vec_capacity, sum_by};
-ghost use Rattle.mls_errorplane.specs.Words.{ChangesOnly, HasPlane, HasRoomFor, HasStrips, IsExact, IsRectangleIn, KeepsRoom, MeetArea, block_at, marks, picture_in, room_of, size_of, tile_count, tiles_of, world};
+ghost use Rattle.mls_errorplane.specs.Common.{ChangesOnly, HasPlane, HasRoomFor, HasStrips, IsExact, IsRectangleIn, KeepsRoom, MeetArea, block_at, marks, picture_in, room_of, size_of, tile_count, tiles_of, world};
 ghost use Rattle.mls_errorplane.specs.MarkPlanes.{marked_count, most_pieces, remarked};
 ghost use Rattle.mls_errorplane.specs.PaintedMarks.{marked_part, space_size};
 

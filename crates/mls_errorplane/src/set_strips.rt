@@ -1,6 +1,6 @@
 //! The maximal strips of the squares that areas have.
 ghost use Rattle.std.specs.Prelude.{◌≡◌, ◌&&◌, ◌<◌, ◌≤◌, ℕ, if◌then◌else◌, length, map, IfErr, IfOk, OnOk};
-ghost use Rattle.mls_errorplane.specs.Words.{IfTooMany, holds, laid};
+ghost use Rattle.mls_errorplane.specs.Common.{IfTooMany, holds, laid};
 ghost use Rattle.mls_errorplane.specs.Violations.{Covers, set_strips, squares_within};
 
 use crate::dirty::lies_in_world;

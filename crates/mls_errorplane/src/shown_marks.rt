@@ -1,6 +1,6 @@
 //! Whether an error plane shows the marks of a finding already, and in which part of its rectangle it doesn't.
 ghost use Rattle.std.specs.Prelude.{◌≡◌, ◌+◌, ◌≤◌, ℕ, true, IfSome, IsNone, IsTrue, All, Any, sum_by};
-ghost use Rattle.mls_errorplane.specs.Words.{IsRectangleIn, holds, marks, size_of, square_count};
+ghost use Rattle.mls_errorplane.specs.Common.{IsRectangleIn, holds, marks, size_of, square_count};
 ghost use Rattle.mls_errorplane.specs.PaintedMarks.{IsSettled, ShowsBeside, ShowsSet, space_size};
 
 use crate::differing::{bounds_of_differing, differing_in};

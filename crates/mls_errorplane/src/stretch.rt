@@ -1,6 +1,6 @@
 //! Pieces of an area that are checked as one.
 ghost use Rattle.std.specs.Prelude.{◌≡◌, ◌+◌, ◌*◌, ◌<◌, ◌≤◌, if◌then◌else◌, true, Some, None, List, ◌∷◌};
-ghost use Rattle.mls_errorplane.specs.Words.{IsRectangleIn, Rect, has_squares, world};
+ghost use Rattle.mls_errorplane.specs.Common.{IsRectangleIn, Rect, has_squares, world};
 ghost use Rattle.mls_errorplane.specs.DirtyLists.{piece_side};
 ghost use Rattle.mls_errorplane.specs.Stretches.{IsNext};
 

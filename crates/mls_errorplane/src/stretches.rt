@@ -1,6 +1,6 @@
 //! Checking pieces as one, where each plane shows one kind round all of them, or bars.
 ghost use Rattle.std.specs.Prelude.{◌≡◌, ◌+◌, ◌<◌, ◌≤◌, ℕ, false, IfNone, IfSome, IsTrue, List};
-ghost use Rattle.mls_errorplane.specs.Words.{ChangesOnly, HasLayout, Layout, Rect, SquareSet, flat_layout, joined};
+ghost use Rattle.mls_errorplane.specs.Common.{ChangesOnly, HasLayout, Layout, Rect, SquareSet, flat_layout, joined};
 ghost use Rattle.mls_errorplane.specs.CatchingUp.{Steps};
 ghost use Rattle.mls_errorplane.specs.DirtyLists.{area_of};
 ghost use Rattle.mls_errorplane.specs.ErrorPlanes.{HasMarks, ShowsMarks, StandsApart, checking_of};

@@ -1,6 +1,6 @@
 //! Which rules forbid some square of a rectangle of a layout, whatever its size.
 ghost use Rattle.std.specs.Prelude.{◌≡◌, IfOk};
-ghost use Rattle.mls_errorplane.specs.Words.{HasLayout, flat_layout, violated_rules};
+ghost use Rattle.mls_errorplane.specs.Common.{HasLayout, flat_layout, violated_rules};
 
 use crate::CheckContext;
 use crate::halving::halves;

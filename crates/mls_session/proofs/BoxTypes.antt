@@ -1,7 +1,7 @@
 -- The types of the first planes: one plane more adds its types.
 use Rattle.std.proofs.Common.{◌≡◌, ℕ, ◌+◌, Option, Some, sym, ap, ◌∙◌}
 use Rattle.std.proofs.Math.Path.{fun_ext}
-use Rattle.mls_session.proofs.Words.{Config, Drawn, Kinds, Layout, Rect, kinds_in, layout_of, set_of, shows, shows_type, types_in, union, what_step}
+use Rattle.mls_session.proofs.Common.{Config, Drawn, Kinds, Layout, Rect, kinds_in, layout_of, set_of, shows, shows_type, types_in, union, what_step}
 use Rattle.mls_kinds.proofs.KindSetLemmas.{set_of_none, union-set_of}
 use Rattle.mls_library.proofs.FirstPlanes.{any_more}
 

@@ -2,7 +2,7 @@
 use Rattle.std.proofs.Common.{◌≡◌, ◌≢◌, ◌+◌, ◌-◌, ◌<◌, ◌≤◌, ℕ, zero, suc, Option, Some, None, List, [], ◌∷◌, refl, sym, ap, ◌∙◌, subst, arith, option_and_then}
 use Rattle.std.specs.Option.{option_map_or}
 use Rattle.std.proofs.lemmas.Option.{same_Some}
-use Rattle.mls_session.proofs.Words.{Config, Designed, IsDirtyList, Rect, area_of, catch_up_step, caught_up, checked, checked_times, dropped, ending}
+use Rattle.mls_session.proofs.Common.{Config, Designed, IsDirtyList, Rect, area_of, catch_up_step, caught_up, checked, checked_times, dropped, ending}
 use Rattle.mls_errorplane.proofs.AreaSizes.{area_of-dropped-less}
 use Rattle.mls_errorplane.proofs.KeptLists.{IsDirtyList-dropped}
 use Rattle.mls_session.proofs.CheckedDesigns.{checked_some}

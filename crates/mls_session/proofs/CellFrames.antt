@@ -1,6 +1,6 @@
 -- A command changes tiles of the design's planes alone, so the library's cells stay as they are.
 use Rattle.std.proofs.Common.{◌≡◌, ℕ, suc, List, [], ◌∷◌, All, get_or, refl, sym, ap, subst, ◌∙◌, arith}
-use Rattle.mls_session.proofs.Words.{CanDump, ChangesAmong, Pool, Setup, ShowsOwnTypes, cell_layouts}
+use Rattle.mls_session.proofs.Common.{CanDump, ChangesAmong, Pool, Setup, ShowsOwnTypes, cell_layouts}
 use Rattle.mls_library.specs.Libraries.{IsHome as AreCellsHome, Library, ShowOwnTypes, cell_layout}
 use Rattle.mls_library.proofs.KeptCells.{IsCellApart, IsHome-ChangesAmong, cell_layout-ChangesAmong}
 

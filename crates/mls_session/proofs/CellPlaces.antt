@@ -1,6 +1,6 @@
 -- A cell of the library that is to be dumped or placed: its layout, where it lies, and the command's step.
 use Rattle.std.proofs.Common.{◌≡◌, ℕ, ℤ, ◌≤◌, ◌<◌, ◌∷◌, ◌++◌, [], true, false, Option, Some, Ok, Err, List, length, slice_get, refl, sym, ap, ◌∙◌, option_map}
-use Rattle.mls_session.proofs.Words.{CanDump, CellOutside, Design, Designed, Pool, Rect, Refusal, Setup, TooManyUses, cell_at, change_step, checking_of, config_of, design_step, designed_of, dirty_after, dump_step, dumped_in, dumped_layout, dumped_rect, edit_step, get_step, layout_in, layout_leaves_world, most_uses, painted_bounds, placed_bounds}
+use Rattle.mls_session.proofs.Common.{CanDump, CellOutside, Design, Designed, Pool, Rect, Refusal, Setup, TooManyUses, cell_at, change_step, checking_of, config_of, design_step, designed_of, dirty_after, dump_step, dumped_in, dumped_layout, dumped_rect, edit_step, get_step, layout_in, layout_leaves_world, most_uses, painted_bounds, placed_bounds}
 use Rattle.mls_library.proofs.FoundCells.{smallest_found}
 use Rattle.mls_session.specs.declared.command.Command.TheVariants.{Dump, GetCell}
 use Rattle.mls_session.specs.declared.reply.Reply.TheVariants.{Done, Refused}

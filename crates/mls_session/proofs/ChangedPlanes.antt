@@ -4,7 +4,7 @@ use Rattle.std.proofs.Math.Path.{fun_ext}
 use Rattle.std.proofs.lemmas.Bool.{cases_eq, cases_lt}
 use Rattle.std.proofs.lemmas.List.{get_or_default}
 use Rattle.mls_kinds.specs.KindSets.{has_bit as has_type}
-use Rattle.mls_session.proofs.Words.{AreAtHome, Change, ChangesAmong, ChangesOnly, Design, HasStrips, Layout, ListsChange, Picture, Piece, Pool, ReadsAtMost, changed, changed_layout, dumped, empty_picture, holds, kind_or_space, layout_in, moved_picture, painted_over, picture_in, shown, tiles_of}
+use Rattle.mls_session.proofs.Common.{AreAtHome, Change, ChangesAmong, ChangesOnly, Design, HasStrips, Layout, ListsChange, Picture, Piece, Pool, ReadsAtMost, changed, changed_layout, dumped, empty_picture, holds, kind_or_space, layout_in, moved_picture, painted_over, picture_in, shown, tiles_of}
 use Rattle.mls_paint.proofs.OwnerFrames.{ChangesAmong-ChangesOnly, ChangesAmong-refl, ChangesAmong-trans, layout_in-at}
 use Rattle.mls_session.specs.declared.change.Change.TheVariants.{Erase, Dump}
 use Rattle.mls_session.proofs.DumpedRects.{layout_in-beyond}

@@ -3,7 +3,7 @@ use Rattle.std.proofs.Common.{◌≡◌, Bool, true, false, not, ℕ, ◌<◌, n
 use Rattle.std.specs.List.{list_any, range_with_len}
 use Rattle.std.proofs.lemmas.Bool.{cases_lt, false_from_ne_true}
 use Rattle.std.proofs.lemmas.Bool.Decides.{nat_tests}
-use Rattle.mls_session.proofs.Words.{Config, Drawn, FitsQuota, Layout, Picture, Quota, Reply, change_step, exceeds_quota, nothing_read, tile_count, world}
+use Rattle.mls_session.proofs.Common.{Config, Drawn, FitsQuota, Layout, Picture, Quota, Reply, change_step, exceeds_quota, nothing_read, tile_count, world}
 use Rattle.mls_session.specs.declared.reply.Reply.TheVariants.{Done, Refused}
 use Rattle.mls_library.proofs.FirstPlanes.{any_at}
 

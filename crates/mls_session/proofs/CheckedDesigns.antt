@@ -3,7 +3,7 @@ use Rattle.std.proofs.Common.{◌≡◌, ◌≢◌, ◌==◌, ℕ, zero, suc, Bo
 use Rattle.std.specs.Option.{option_map_or}
 use Rattle.std.proofs.lemmas.Bool.{cond-false, cond-true, or_from, or_left, or_parts, or_right}
 use Rattle.std.proofs.lemmas.Option.{same_Some}
-use Rattle.mls_session.proofs.Words.{Checking, Config, Designed, HasStepped, OwnState, Rect, Steps, Terms, caught_up, checked, checked_times, checks, ending, exceeds, layout_of, next_checking, own_check}
+use Rattle.mls_session.proofs.Common.{Checking, Config, Designed, HasStepped, OwnState, Rect, Steps, Terms, caught_up, checked, checked_times, checks, ending, exceeds, layout_of, next_checking, own_check}
 use Rattle.mls_errorplane.specs.declared.error_plane.Stepped.TheVariants as stepped
 
 -- ---- one step

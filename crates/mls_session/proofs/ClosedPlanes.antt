@@ -1,7 +1,7 @@
 -- Planes at home in a pool that are given back to it one after the other.
 use Rattle.std.proofs.Common.{◌≡◌, ◌≢◌, ℕ, ◌+◌, ◌*◌, ◌<◌, List, [], ◌∷◌, ◌++◌, length, Some, IfSome, All, AllPairs, Contains, refl, sym, ap, ◌∙◌, subst, append-nil, arith, length-append}
 use Rattle.std.proofs.lemmas.List.{get_or_append_left, get_or_at, length_push, nil_from_length}
-use Rattle.mls_session.proofs.Words.{IsOwner, Pool, RemovesOwners, plane_reserve, room_of}
+use Rattle.mls_session.proofs.Common.{IsOwner, Pool, RemovesOwners, plane_reserve, room_of}
 use Rattle.mls_paint.proofs.OwnerFrames.{RemovesOwners-append}
 use Rattle.mls_session.specs.Designs.{AreAtHome, Design, IsHome, owners_of}
 use Rattle.mls_session.proofs.ErrorPlanes.{is_none_of}

@@ -1,6 +1,6 @@
 -- The steps of commands, from what a design's layout and its error plane do.
 use Rattle.std.proofs.Common.{◌≡◌, ℕ, Option, Some, None, List, length, refl, sym, ap, ◌∙◌, subst}
-use Rattle.mls_session.proofs.Words.{CatchUp, CaughtUp, ChangesOnly, Checking, Config, Counts, DesignSteps, Designed, Drawn, EdgeRule, Executed, HasCaughtUp, IsDirtyList, Pool, Rect, Refusal, Reply, caught_up_reply, check_in, checking_of, dirty_after, edit_step, layout_of, steps_of}
+use Rattle.mls_session.proofs.Common.{CatchUp, CaughtUp, ChangesOnly, Checking, Config, Counts, DesignSteps, Designed, Drawn, EdgeRule, Executed, HasCaughtUp, IsDirtyList, Pool, Rect, Refusal, Reply, caught_up_reply, check_in, checking_of, dirty_after, edit_step, layout_of, steps_of}
 use Rattle.mls_session.specs.Designs.{Design, IsHome, designed_of, drawn_of}
 use Rattle.mls_session.specs.declared.reply.Reply.TheVariants.{Done, Refused}
 use Rattle.mls_session.proofs.DesignSteps.{Counts-caught_up, DesignSteps-caught_up}

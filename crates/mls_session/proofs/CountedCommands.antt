@@ -1,7 +1,7 @@
 -- The check steps that are counted after a command: they fit.
 use Rattle.std.proofs.Common.{◌≡◌, inl, inr, ◌+◌, ◌^◌, ◌<◌, ◌≤◌, ℕ, Bool, true, false, Some, sym, refl, ap, ◌∙◌, subst, arith, true≢false}
 use Rattle.std.proofs.lemmas.Bool.{cond-false, cond-true}
-use Rattle.mls_session.proofs.Words.{Command, Config, Counts, DesignRunsOut, DesignSteps, Designed, Executed, IsCounted, IsDirtyList, Journal, Reply, after_command, area_of, checked_times, is_memory, is_refusal, most_checks}
+use Rattle.mls_session.proofs.Common.{Command, Config, Counts, DesignRunsOut, DesignSteps, Designed, Executed, IsCounted, IsDirtyList, Journal, Reply, after_command, area_of, checked_times, is_memory, is_refusal, most_checks}
 use Rattle.mls_session.specs.declared.command.Command.TheVariants.{CatchUp, What, Why}
 use Rattle.mls_session.proofs.CaughtUpDesigns.{checked_times-fewer}
 use Rattle.mls_session.proofs.CountedSteps.{IsCounted-none, fits_of}

@@ -1,6 +1,6 @@
 -- The check steps that are counted: there are never more than squares that awaited checking.
 use Rattle.std.proofs.Common.{◌≡◌, ℕ, zero, suc, ◌+◌, ◌^◌, ◌≤◌, ◌<◌, List, sym, subst, arith}
-use Rattle.mls_session.proofs.Words.{Checking, EdgeRule, Finding, HasFinished, HasStepped, IsCounted, IsDirtyList, Layout, Outcome, Rect, Stepped, Steps, area_of, done_steps, finished_steps, most_checks}
+use Rattle.mls_session.proofs.Common.{Checking, EdgeRule, Finding, HasFinished, HasStepped, IsCounted, IsDirtyList, Layout, Outcome, Rect, Stepped, Steps, area_of, done_steps, finished_steps, most_checks}
 use Rattle.mls_errorplane.specs.declared.error_plane.Outcome.TheVariants as outcome
 use Rattle.mls_errorplane.specs.declared.error_plane.Stepped.TheVariants as stepped
 use Rattle.mls_errorplane.proofs.AreaSizes.{area_of-le}

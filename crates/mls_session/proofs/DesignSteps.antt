@@ -1,7 +1,7 @@
 -- Catching up is the step of a design's own machine, unless memory runs out.
 use Rattle.std.proofs.Common.{◌≡◌, ◌==◌, inl, inr, ℕ, true, Some, List, length, sym, ap, ◌∙◌, subst, true≢false}
 use Rattle.std.proofs.lemmas.Bool.{cond-false, cond-true}
-use Rattle.mls_session.proofs.Words.{CatchUp, CaughtUp, Config, Counts, DesignSteps, Designed, Drawn, Executed, HasCaughtUp, IsDirtyList, Quota, Rect, Reply, Steps, catch_up_step, caught_up_reply, check_step, checked_times, design_step, ending, exceeds, is_memory, is_refusal, layout_of, steps_of}
+use Rattle.mls_session.proofs.Common.{CatchUp, CaughtUp, Config, Counts, DesignSteps, Designed, Drawn, Executed, HasCaughtUp, IsDirtyList, Quota, Rect, Reply, Steps, catch_up_step, caught_up_reply, check_step, checked_times, design_step, ending, exceeds, is_memory, is_refusal, layout_of, steps_of}
 use Rattle.mls_errorplane.specs.declared.catching_up.CaughtUp.TheVariants.{Done as AllChecked, Full as MarksFull, Memory as OutOfMemory}
 use Rattle.mls_session.specs.declared.reply.Reply.TheVariants.{Done, Stopped}
 use Rattle.mls_session.proofs.CaughtUpDesigns.{catch_up_step-ends}

@@ -1,6 +1,6 @@
 -- What holds of each change of what is drawn, and of each refusal, holds of the step of every command that draws or looks.
 use Rattle.std.proofs.Common.{◌≡◌, ℕ, ℤ, Bool, true, false, if◌then◌else◌, nat_le, nat_lt, not, Option, Some, None, Result, Ok, Err, ◌++◌, ◌∷◌, [], length, slice_get, refl}
-use Rattle.mls_session.proofs.Words.{CellOutside, Config, Drawn, Empty, EmptyBox, Layout, NoBox, Outside, OutsideWorld, Quota, Rect, RectFault, Refusal, Reply, TooManyUses, UnknownCell, UnknownType, are_types, box_step, cell_at, change_step, check_in, dump_step, dumped_in, dumped_layout, dumped_rect, erase_step, erased_layout, exceeds_quota, get_in, get_step, is_full, is_memory, layout_leaves_world, most_uses, paint_on, paint_step, painted, plane_of_type, tile_count, what_step, with_plane, world}
+use Rattle.mls_session.proofs.Common.{CellOutside, Config, Drawn, Empty, EmptyBox, Layout, NoBox, Outside, OutsideWorld, Quota, Rect, RectFault, Refusal, Reply, TooManyUses, UnknownCell, UnknownType, are_types, box_step, cell_at, change_step, check_in, dump_step, dumped_in, dumped_layout, dumped_rect, erase_step, erased_layout, exceeds_quota, get_in, get_step, is_full, is_memory, layout_leaves_world, most_uses, paint_on, paint_step, painted, plane_of_type, tile_count, what_step, with_plane, world}
 use Rattle.mls_session.specs.declared.reply.Reply.TheVariants.{Done, Kinds, Refused}
 
 -- the own paint with a rectangle painted on the type's plane

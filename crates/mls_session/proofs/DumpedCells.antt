@@ -4,7 +4,7 @@ use Rattle.std.specs.List.{list_any, range_with_len}
 use Rattle.std.proofs.lemmas.Bool.{both_ways, false_from_ne_true}
 use Rattle.std.proofs.lemmas.List.{get_or_default}
 use Rattle.std.proofs.lemmas.Option.{get_or_from_slice_get, slice_get-map, slice_get_within}
-use Rattle.mls_session.proofs.Words.{CellOutside, Config, Drawn, Layout, Library, NamedCell, Pool, cell_at, cell_layout, cell_layouts, change_step, dump_step, dumped_layout, layout_in, layout_leaves_world, leaves_world, picture_in}
+use Rattle.mls_session.proofs.Common.{CellOutside, Config, Drawn, Layout, Library, NamedCell, Pool, cell_at, cell_layout, cell_layouts, change_step, dump_step, dumped_layout, layout_in, layout_leaves_world, leaves_world, picture_in}
 use Rattle.mls_paint.proofs.OwnerFrames.{layout_in-at}
 use Rattle.mls_session.specs.declared.reply.Reply.TheVariants.{Refused}
 use Rattle.mls_library.proofs.FirstPlanes.{any_at}

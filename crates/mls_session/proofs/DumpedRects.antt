@@ -3,7 +3,7 @@ use Rattle.std.proofs.Common.{◌≡◌, ℕ, ◌≤◌, false, List, All, get_o
 use Rattle.std.proofs.lemmas.Bool.{cases_lt}
 use Rattle.std.proofs.lemmas.List.{get_or_default}
 use Rattle.std.proofs.lemmas.Option.{slice_get_past}
-use Rattle.mls_session.specs.Words.{HasStrips, Picture, Pool, empty_picture, holds, layout_in, picture_at, tiles_of, world}
+use Rattle.mls_session.specs.Common.{HasStrips, Picture, Pool, empty_picture, holds, layout_in, picture_at, tiles_of, world}
 use Rattle.mls_stitch.proofs.ShownTiles.{KeysDiffer-tiles_of, shown-outside}
 use Rattle.mls_paint.proofs.OwnerFrames.{layout_in-at}
 

@@ -1,6 +1,6 @@
 -- What an edit of a design's layout leads to, once what it changed awaits checking.
 use Rattle.std.proofs.Common.{◌≡◌, ℕ, ◌<◌, Bool, true, not, List, Option, Some, sym, ap, ◌∙◌}
-use Rattle.mls_session.proofs.Words.{CellUse, ChangesAmong, ChangesOnly, Config, Layout, Piece, Pool, Rect, change_step, checking_of, dirty_after, edit_step, exceeds_quota, layout_in, overlaid, paint_step, picture_in, tile_count, world}
+use Rattle.mls_session.proofs.Common.{CellUse, ChangesAmong, ChangesOnly, Config, Layout, Piece, Pool, Rect, change_step, checking_of, dirty_after, edit_step, exceeds_quota, layout_in, overlaid, paint_step, picture_in, tile_count, world}
 use Rattle.mls_paint.proofs.OwnerFrames.{ChangesAmong-ChangesOnly}
 use Rattle.mls_session.specs.Designs.{Design, IsHome, designed_of, drawn_of}
 use Rattle.mls_session.specs.declared.reply.Reply.TheVariants.{Done}

@@ -5,7 +5,7 @@ use Rattle.std.proofs.Math.Path.{fun_ext}
 use Rattle.std.proofs.lemmas.Bool.{and_from, cases_Bool, cases_lt}
 use Rattle.std.proofs.lemmas.Int.{ints}
 use Rattle.std.proofs.lemmas.List.Folds.{Any-from_list_any}
-use Rattle.mls_session.proofs.Words.{AgreeOutside, Layout, Picture, Rect, dumped_layout, dumped_rect, empty_picture, erased_layout, has_paint, holds, kind_or_space, layout_leaves_world, leaves_world, moved_picture, moved_rect, painted, painted_bounds, with_plane, world, world_has}
+use Rattle.mls_session.proofs.Common.{AgreeOutside, Layout, Picture, Rect, dumped_layout, dumped_rect, empty_picture, erased_layout, has_paint, holds, kind_or_space, layout_leaves_world, leaves_world, moved_picture, moved_rect, painted, painted_bounds, with_plane, world, world_has}
 use Rattle.mls_geom.proofs.Holds.{holds_between}
 use Rattle.mls_geom.proofs.Squares.{range_with_len-Contains}
 use Rattle.mls_kinds.specs.KindSets.{has_bit as has_type}

@@ -7,7 +7,7 @@ use Rattle.std.proofs.lemmas.Bool.Decides.{same_from_decides}
 use Rattle.std.proofs.lemmas.List.Elements.{All-contains}
 use Rattle.std.proofs.lemmas.List.Folds.{Any-from_list_any, list_any-from_Any}
 use Rattle.mls_kinds.specs.KindSets.{has_bit as has_type}
-use Rattle.mls_session.proofs.Words.{AreInArea, IsFound, IsPlane, LaidTile, Piece, Rect, Tile, block_at, clipped, common, empty_picture, erased, holds, overlaid, shown}
+use Rattle.mls_session.proofs.Common.{AreInArea, IsFound, IsPlane, LaidTile, Piece, Rect, Tile, block_at, clipped, common, empty_picture, erased, holds, overlaid, shown}
 use Rattle.mls_stitch.proofs.ShownTiles.{KeysDiffer, shown-inside}
 use Rattle.mls_session.proofs.TilePieces.{ArePatches, is_covered}
 

@@ -2,7 +2,7 @@
 use Rattle.std.proofs.Common.{◌≡◌, ◌≢◌, ℕ, ◌≤◌, List, [], ◌∷◌, get_or, Option, Some, All, Contains, sym, ap, ◌∙◌, subst, arith}
 use Rattle.std.proofs.lemmas.List.{get_or_default}
 use Rattle.std.proofs.lemmas.List.Elements.{Contains-append_left, Contains-push}
-use Rattle.mls_session.proofs.Words.{AddsOwner, CellUse, ChangesAmong, ChangesOnly, ErrorPlane, FitsWorkspace, HasPlane, HasStrips, Pool, Rect, ShowsMarks, checking_of, is_marked, layout_in, marked_count, marks_picture, most_quota, picture_in, plane_reserve, room_of, shown, world}
+use Rattle.mls_session.proofs.Common.{AddsOwner, CellUse, ChangesAmong, ChangesOnly, ErrorPlane, FitsWorkspace, HasPlane, HasStrips, Pool, Rect, ShowsMarks, checking_of, is_marked, layout_in, marked_count, marks_picture, most_quota, picture_in, plane_reserve, room_of, shown, world}
 use Rattle.mls_paint.proofs.OwnerFrames.{ChangesAmong-ChangesOnly, ChangesAmong-more, ChangesAmong-refl, HasStrips-AddsOwner, HasStrips-ChangesAmong, layout_in-kept, picture_in-ChangesAmong, room_of-ChangesAmong}
 use Rattle.mls_session.specs.Designs.{AreAtHome, Design, HasErrorPlane, IsHome, KeepsPlanes, drawn_of, owners_of}
 use Rattle.mls_session.proofs.HomePlanes.{AreAtHome-ChangesOnly, AreAtHome-same, differ_from_new}

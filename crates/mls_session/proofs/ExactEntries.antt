@@ -5,7 +5,7 @@ use Rattle.mls_session.specs.contracts.command.CommandPartialEq.TheImpl as comma
 use Rattle.mls_session.specs.contracts.journal.EntryPartialEq.TheImpl as entry_test
 use Rattle.mls_session.specs.contracts.journal.SaidPartialEq.TheImpl as said_test
 use Rattle.mls_session.specs.contracts.reply.ReplyPartialEq.TheImpl as reply_test
-use Rattle.mls_session.proofs.Words.{Box, Command, Entry, Reply, Said}
+use Rattle.mls_session.proofs.Common.{Box, Command, Entry, Reply, Said}
 
 -- ---- replies
 pub reply_exact : (a b : Reply) → Decides ((reply_test.ghosts).eq a b) (a ≡ b)

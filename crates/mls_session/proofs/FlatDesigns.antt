@@ -1,7 +1,7 @@
 -- A design's layout is what its planes show with the uses of its cells, and these lie in the pool beside them.
 use Rattle.std.proofs.Common.{◌≡◌, ◌≢◌, ℕ, ◌<◌, ◌≤◌, List, [], ◌∷◌, length, get_or, All, Contains, sym, ap, ◌∙◌, subst, arith}
 use Rattle.std.proofs.lemmas.List.Elements.{Contains-append_right}
-use Rattle.mls_session.proofs.Words.{CellUse, FitsWorkspace, HasFlatPlane, HasLayout, HasPlane, HasPlanes, Picture, Pool, Setup, StandsApart, Uses, cell_layouts, config_of, flat_layout, flat_plane, flattened, layout_in, layout_of, most_quota, over, uses_layout}
+use Rattle.mls_session.proofs.Common.{CellUse, FitsWorkspace, HasFlatPlane, HasLayout, HasPlane, HasPlanes, Picture, Pool, Setup, StandsApart, Uses, cell_layouts, config_of, flat_layout, flat_plane, flattened, layout_in, layout_of, most_quota, over, uses_layout}
 use Rattle.mls_library.specs.Libraries.{IsHome as AreCellsHome, Library}
 use Rattle.mls_paint.proofs.OwnerFrames.{layout_in-at}
 use Rattle.mls_session.specs.Designs.{CanDump, Design, HasErrorPlane, IsHome, IsMadeFor, drawn_of, owners_of}

@@ -1,7 +1,7 @@
 -- How many tiles there are.
 use Rattle.std.proofs.Common.{◌≡◌, ℕ, List, length, map, sym, ◌∙◌}
 use Rattle.std.proofs.lemmas.List.{length-map}
-use Rattle.mls_session.specs.Words.{AreStrips, LaidTile, Pool, picture_in, tile_count, world}
+use Rattle.mls_session.specs.Common.{AreStrips, LaidTile, Pool, picture_in, tile_count, world}
 use Rattle.mls_geom.proofs.StripPictures.{AreUnorderedStrips-ordered}
 use Rattle.mls_geom.proofs.UnorderedStrips.{unordered_strips_number}
 

@@ -4,7 +4,7 @@ use Rattle.std.proofs.lemmas.Bool.{cases_lt}
 use Rattle.std.proofs.lemmas.List.{set-get_or}
 use Rattle.std.proofs.lemmas.List.Elements.{All-push}
 use Rattle.std.proofs.lemmas.List.Quantifiers.{all_pairs_push}
-use Rattle.mls_session.proofs.Words.{AddsOwner, AreAtHome, ChangesOnly, Design, HasStrips, Pool, most_tiles, plane_reserve, room_of}
+use Rattle.mls_session.proofs.Common.{AddsOwner, AreAtHome, ChangesOnly, Design, HasStrips, Pool, most_tiles, plane_reserve, room_of}
 use Rattle.mls_paint.proofs.OwnerFrames.{HasStrips-AddsOwner, HasStrips-ChangesOnly, apart_from_added, has_room-HasStrips}
 
 -- a plane that was lent to a call comes back

@@ -2,7 +2,7 @@
 use Rattle.std.proofs.Common.{◌≡◌, inl, inr, ℕ, ◌+◌, ◌≤◌, Option, Some, None, List, [], ◌∷◌, refl, ap, subst, arith, option_and_then}
 use Rattle.std.proofs.lemmas.Bool.{cases_eq}
 use Rattle.std.proofs.lemmas.Option.{same_Some}
-use Rattle.mls_session.proofs.Words.{Command, Entry, IsLegal, Kept, OwnState, Reply, Run, Terms, beginning, checks, own_step, run_from, said_next}
+use Rattle.mls_session.proofs.Common.{Command, Entry, IsLegal, Kept, OwnState, Reply, Run, Terms, beginning, checks, own_step, run_from, said_next}
 use Rattle.mls_session.proofs.JournalRuns.{Leads-from, checks-entries}
 use Rattle.mls_session.proofs.OwnReplies.{own_step-full, own_step-room}
 

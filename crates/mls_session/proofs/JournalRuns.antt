@@ -1,7 +1,7 @@
 -- Runs of commands and check steps, one after another.
 use Rattle.std.proofs.Common.{◌≡◌, ◌+◌, ◌++◌, ℕ, zero, suc, Option, Some, None, List, [], ◌∷◌, refl, sym, ap, ◌∙◌, arith, option_and_then, option_map}
 use Rattle.std.proofs.lemmas.Option.{same_Some}
-use Rattle.mls_session.proofs.Words.{Command, Designed, Entry, OwnState, Reply, Run, Terms, alone_run, alone_run_with, checked, checks, own_check, run_from, said_next}
+use Rattle.mls_session.proofs.Common.{Command, Designed, Entry, OwnState, Reply, Run, Terms, alone_run, alone_run_with, checked, checks, own_check, run_from, said_next}
 
 module _ (terms : Terms) where
   -- ---- check steps

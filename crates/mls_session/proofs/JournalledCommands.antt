@@ -1,7 +1,7 @@
 -- What a session keeps after a command of its design.
 use Rattle.std.proofs.Common.{◌≡◌, ◌≢◌, inl, inr, ◌+◌, ◌++◌, ◌∷◌, [], ℕ, Bool, true, false, cond, Some, List, length, length-append, refl, sym, ap, ◌∙◌, subst, arith}
 use Rattle.std.proofs.lemmas.Bool.{cond-false, cond-true}
-use Rattle.mls_session.proofs.Words.{Command, Commands, Counts, Design, DesignRunsOut, DesignSteps, Designed, Does, Entry, Executed, Journal, JournalFull, Kept, OwnState, Pool, Reply, RunsOut, Session, Setup, Terms, after_command, after_note, after_steps, checks, config_of, design_step, designed_of, is_journalled, is_memory, is_refusal, kept_of, noted, own_step, said_of, terms_of}
+use Rattle.mls_session.proofs.Common.{Command, Commands, Counts, Design, DesignRunsOut, DesignSteps, Designed, Does, Entry, Executed, Journal, JournalFull, Kept, OwnState, Pool, Reply, RunsOut, Session, Setup, Terms, after_command, after_note, after_steps, checks, config_of, design_step, designed_of, is_journalled, is_memory, is_refusal, kept_of, noted, own_step, said_of, terms_of}
 use Rattle.mls_session.specs.declared.command.Command.TheVariants.{CatchUp, What, Why}
 use Rattle.mls_session.specs.declared.reply.Reply.TheVariants.{Refused}
 use Rattle.mls_session.proofs.CheckedDesigns.{checks-Some}

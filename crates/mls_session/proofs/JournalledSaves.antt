@@ -1,6 +1,6 @@
 -- What a session keeps after the text of its layout was saved.
 use Rattle.std.proofs.Common.{◌≡◌, ◌≢◌, inl, inr, ◌+◌, ◌++◌, [], ℕ, List, length, refl, sym, ap, ◌∙◌, subst, arith, append-nil}
-use Rattle.mls_session.proofs.Words.{Design, Designed, Executed, Journal, JournalFull, Kept, Pool, Refusal, Reply, Saves, SavesText, Session, Setup, Terms, after_command, design_step, designed_of, is_memory, kept_of, layout_in, save_step, saved_text, terms_of}
+use Rattle.mls_session.proofs.Common.{Design, Designed, Executed, Journal, JournalFull, Kept, Pool, Refusal, Reply, Saves, SavesText, Session, Setup, Terms, after_command, design_step, designed_of, is_memory, kept_of, layout_in, save_step, saved_text, terms_of}
 use Rattle.mls_session.specs.declared.command.Command.TheVariants.{Save}
 use Rattle.mls_session.specs.declared.reply.Reply.TheVariants.{Saved, Refused}
 use Rattle.mls_session.proofs.JournalledCommands.{Does-executed, Does-full, counted, entries-room, kept_with, seen}

@@ -1,6 +1,6 @@
 -- What a session keeps after a check step of its design.
 use Rattle.std.proofs.Common.{◌≡◌, ℕ, ◌+◌, true, Some, None, length, refl, sym, ap, ◌∙◌, subst, arith, option_map}
-use Rattle.mls_session.proofs.Words.{Checking, ChecksOnce, ChecksTimes, Design, Designed, Drawn, Finding, Finishes, HasFinished, HasRightMarks, HasStepped, IsChecked, Journal, Kept, Layout, Outcome, Pool, Setup, Stepped, Steps, StepsOnce, Terms, after_steps, check_step, checked, checked_times, checking_of, config_of, designed_of, done_steps, drawn_of, exceeds, finished_steps, layout_of, own_check, terms_of}
+use Rattle.mls_session.proofs.Common.{Checking, ChecksOnce, ChecksTimes, Design, Designed, Drawn, Finding, Finishes, HasFinished, HasRightMarks, HasStepped, IsChecked, Journal, Kept, Layout, Outcome, Pool, Setup, Stepped, Steps, StepsOnce, Terms, after_steps, check_step, checked, checked_times, checking_of, config_of, designed_of, done_steps, drawn_of, exceeds, finished_steps, layout_of, own_check, terms_of}
 use Rattle.mls_errorplane.specs.declared.error_plane.Outcome.TheVariants as outcome
 use Rattle.mls_errorplane.specs.declared.error_plane.Stepped.TheVariants as stepped
 use Rattle.mls_session.specs.Sessions.{IsMadeFor, Session, kept_of, state_of}

@@ -1,6 +1,6 @@
 -- What a call that keeps a session's planes leaves for the next one: what it asks for, and what the setup says of the pool.
 use Rattle.std.proofs.Common.{◌≡◌, ◌++◌, ℕ, List, [], ◌∷◌, length, refl, sym, ap, ◌∙◌, subst}
-use Rattle.mls_session.proofs.Words.{CanDump, ChangesAmong, Layout, Pool, Setup, Terms, terms_of}
+use Rattle.mls_session.proofs.Common.{CanDump, ChangesAmong, Layout, Pool, Setup, Terms, terms_of}
 use Rattle.mls_paint.proofs.OwnerFrames.{ChangesAmong-refl, ChangesAmong-trans}
 use Rattle.mls_session.specs.Sessions.{IsHome, IsMadeFor, IsReady, KeepsPlanes, Session, StaysSound, owners_of}
 use Rattle.mls_session.proofs.CellFrames.{home-ChangesAmong, layouts-ChangesAmong, own_types-ChangesAmong}

@@ -1,6 +1,6 @@
 -- Commands that leave the layout and the marks leave marks right where they are known to be so.
 use Rattle.std.proofs.Common.{◌≡◌, ◌==◌, Bool, true, false, Option, Some, None, Result, Ok, Err, inl, inr, cond, refl, sym, ap, subst, ◌∙◌}
-use Rattle.mls_session.proofs.Words.{Checked, Command, Commands, Config, Designed, Does, Empty, Kept, KnowsRight, Outside, OwnState, Rect, RectFault, Reply, RunsOut, Terms, box_step, check_in, design_step, edit_step, is_journalled, known_after, leaves_marks, noted, own_step, rect_of, what_step, why_step}
+use Rattle.mls_session.proofs.Common.{Checked, Command, Commands, Config, Designed, Does, Empty, Kept, KnowsRight, Outside, OwnState, Rect, RectFault, Reply, RunsOut, Terms, box_step, check_in, design_step, edit_step, is_journalled, known_after, leaves_marks, noted, own_step, rect_of, what_step, why_step}
 use Rattle.mls_session.specs.declared.command.Command.TheVariants.{Box, What, Save, Check, CatchUp, Why, Count}
 
 module _ (config : Config) (own : Designed) (checked : Option Checked) (right : KnowsRight config own checked) where

@@ -3,7 +3,7 @@ use Rattle.std.proofs.Common.{◌≡◌, ◌≢◌, ◌+◌, ◌++◌, ◌⊎◌
 use Rattle.std.proofs.lemmas.Bool.{cases_eq, cond-true}
 use Rattle.std.proofs.lemmas.List.{map-append}
 use Rattle.std.proofs.lemmas.List.Elements.{All-append, All-cons, All-nil}
-use Rattle.mls_session.proofs.Words.{ChecksOnce, Command, Commands, Does, Entry, Finding, Finishes, IsLegal, JournalFull, Kept, Outcome, OwnState, Reply, RunsOut, Saves, Stepped, StepsOnce, Terms, checks, is_journalled, kept_at_opening, noted, own_step, said_of}
+use Rattle.mls_session.proofs.Common.{ChecksOnce, Command, Commands, Does, Entry, Finding, Finishes, IsLegal, JournalFull, Kept, Outcome, OwnState, Reply, RunsOut, Saves, Stepped, StepsOnce, Terms, checks, is_journalled, kept_at_opening, noted, own_step, said_of}
 use Rattle.mls_errorplane.specs.declared.error_plane.Outcome.TheVariants as outcome
 use Rattle.mls_errorplane.specs.declared.error_plane.Stepped.TheVariants as stepped
 use Rattle.mls_session.specs.declared.command.Command.TheVariants.{What, Save, CatchUp, Why}

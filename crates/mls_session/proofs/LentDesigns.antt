@@ -1,6 +1,6 @@
 -- What a design lends to a call of its error plane, its planes and what its layout is checked by, and the design that comes back.
 use Rattle.std.proofs.Common.{◌≡◌, ℕ, ◌≤◌, List, ap, ◌∙◌, subst, arith}
-use Rattle.mls_session.proofs.Words.{ChangesOnly, CheckContext, Checking, EdgeRule, ErrorPlane, HasLayout, IsQuota, KeepsDrawn, Layout, Library, Pool, Setup, ShowsMarks, StandsApart, checking_of, config_of, flat_layout, layout_of, most_quota}
+use Rattle.mls_session.proofs.Common.{ChangesOnly, CheckContext, Checking, EdgeRule, ErrorPlane, HasLayout, IsQuota, KeepsDrawn, Layout, Library, Pool, Setup, ShowsMarks, StandsApart, checking_of, config_of, flat_layout, layout_of, most_quota}
 use Rattle.mls_session.specs.Designs.{CanDump, Design, IsHome, IsMadeFor, drawn_of, owners_of}
 use Rattle.mls_session.specs.declared.design.Design.TheInside.{Inside}
 use Rattle.mls_session.proofs.ErrorPlanes.{KeepsPlanes-errors, drawn-errors}

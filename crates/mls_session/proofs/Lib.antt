@@ -7,6 +7,7 @@ pub mod ChangedQuotas
 pub mod CheckedDesigns
 pub mod ClosedPlanes
 pub mod CommandSteps
+pub mod Common
 pub mod CountedCommands
 pub mod CountedSteps
 pub mod CutAreas
@@ -55,5 +56,4 @@ pub mod SavedSections
 pub mod SessionLooks
 pub mod StepRuns
 pub mod TilePieces
-pub mod Words
 pub use Rattle.mls_library.proofs as mls_library

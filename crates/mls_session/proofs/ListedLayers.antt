@@ -6,7 +6,7 @@ use Rattle.std.specs.Option.{option_map_or}
 use Rattle.std.proofs.lemmas.List.Concat.{flat_map-append}
 use Rattle.std.proofs.lemmas.List.FromFn.{get_or-map-range_with_len, map-range_with_len_more}
 use Rattle.std.proofs.lemmas.Bool.Decides.{nat_tests}
-use Rattle.mls_session.proofs.Words.{IfTooMany, Layout, ListsPlanes, Picture, Piece, Tech, Unlisted, exceeds_tiles, layer_lines, layers_lines, plane_of_type, strips_on, text_of, tile_count, world}
+use Rattle.mls_session.proofs.Common.{IfTooMany, Layout, ListsPlanes, Picture, Piece, Tech, Unlisted, exceeds_tiles, layer_lines, layers_lines, plane_of_type, strips_on, text_of, tile_count, world}
 use Rattle.mls_library.proofs.SavedTexts.{text_of-append, text_of-none}
 use Rattle.mls_layout.specs.declared.strips.Unlisted.TheVariants.{Memory, TooMany}
 use Rattle.mls_library.proofs.FirstPlanes.{any_at, any_more}

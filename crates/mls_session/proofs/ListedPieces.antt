@@ -1,7 +1,7 @@
 -- The pieces that a change paints, listed plane by plane.
 use Rattle.std.proofs.Common.{◌≡◌, ◌≢◌, ℕ, ◌+◌, ◌<◌, ◌≤◌, List, length, get_or, inl, inr, sym, ap, subst, ◌∙◌, arith}
 use Rattle.std.proofs.lemmas.Bool.{cases_eq}
-use Rattle.mls_session.proofs.Words.{ArePlanned, Change, Design, FitsQuota, IsPlanFor, Layout, ListsChange, Picture, Piece, Pool, Scratch, changed, changed_layout, layout_in, overlaid, painted_over, picture_in, plan_of, tile_count, world}
+use Rattle.mls_session.proofs.Common.{ArePlanned, Change, Design, FitsQuota, IsPlanFor, Layout, ListsChange, Picture, Piece, Pool, Scratch, changed, changed_layout, layout_in, overlaid, painted_over, picture_in, plan_of, tile_count, world}
 use Rattle.mls_paint.proofs.OwnerFrames.{layout_in-at}
 
 -- ---- pieces of each plane

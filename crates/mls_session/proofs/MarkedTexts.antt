@@ -1,7 +1,7 @@
 -- The text of a layout with its marks, appended part by part.
 use Rattle.std.proofs.Common.{◌≡◌, ℕ, ◌+◌, ◌≤◌, List, [], ◌∷◌, ◌++◌, length, sym, ap, ◌∙◌, append_assoc, length-append, arith, codes}
 use Rattle.std.proofs.lemmas.List.{length-map}
-use Rattle.mls_session.specs.Words.{Layout, Picture, Piece, Rect, Tech, dirty_lines, end_lines, header_lines, layers_lines, mark_lines, marked, marked_line_count, marked_text, rect_words, spaced, strips_of, strips_on, text_of, type_numbers, world}
+use Rattle.mls_session.specs.Common.{Layout, Picture, Piece, Rect, Tech, dirty_lines, end_lines, header_lines, layers_lines, mark_lines, marked, marked_line_count, marked_text, rect_words, spaced, strips_of, strips_on, text_of, type_numbers, world}
 use Rattle.mls_library.proofs.SavedTexts.{text_of-append}
 use Rattle.mls_session.proofs.SavedCounts.{kind_lines-few, strips_few}
 

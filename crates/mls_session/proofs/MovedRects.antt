@@ -7,7 +7,7 @@ use Rattle.std.proofs.lemmas.Bool.{cases_Bool, cases_lt, or_left, or_parts, or_r
 use Rattle.std.proofs.lemmas.Bool.Decides.{nat_tests}
 use Rattle.std.proofs.lemmas.Int.{ints, to_z-of_z}
 use Rattle.std.proofs.lemmas.Option.{same_Some}
-use Rattle.mls_session.proofs.Words.{Empty, IsRectangleIn, Outside, Rect, RectFault, coordinate_of, holds, is_outside, moved_line, moved_rect, or_none, origin, rect_of, world, world_has}
+use Rattle.mls_session.proofs.Common.{Empty, IsRectangleIn, Outside, Rect, RectFault, coordinate_of, holds, is_outside, moved_line, moved_rect, or_none, origin, rect_of, world, world_has}
 use Rattle.mls_geom.proofs.Holds.{between_holds, holds_between}
 
 -- ---- lines

@@ -7,7 +7,7 @@ use Rattle.std.proofs.lemmas.Bool.{and_from, and_parts, cases_Bool}
 use Rattle.std.proofs.lemmas.Bool.Decides.{same_from_decides}
 use Rattle.std.proofs.lemmas.List.Elements.{All-contains}
 use Rattle.std.proofs.lemmas.List.Folds.{Any-from_list_any, list_any-from_Any}
-use Rattle.mls_session.proofs.Words.{AreInArea, AreStrips, IsFound, IsPlane, IsRectangleIn, LaidTile, Picture, Piece, Pool, Rect, Tile, block_at, columns, dumped, holds, kind_or_space, leaves_world, moved_picture, moved_rect, overlaid, picture_in, rows, shown, tile_count, tiles_of, world, world_has}
+use Rattle.mls_session.proofs.Common.{AreInArea, AreStrips, IsFound, IsPlane, IsRectangleIn, LaidTile, Picture, Piece, Pool, Rect, Tile, block_at, columns, dumped, holds, kind_or_space, leaves_world, moved_picture, moved_rect, overlaid, picture_in, rows, shown, tile_count, tiles_of, world, world_has}
 use Rattle.mls_geom.proofs.Holds.{between_holds, holds_between}
 use Rattle.mls_geom.proofs.PiecePictures.{holds_outer}
 use Rattle.mls_geom.proofs.Squares.{Contains-range_with_len, range_with_len-Contains}

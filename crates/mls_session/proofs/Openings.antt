@@ -2,7 +2,7 @@
 use Rattle.std.proofs.Common.{◌≡◌, ◌≢◌, ℕ, zero, suc, ◌+◌, ◌*◌, List, [], ◌∷◌, ◌++◌, length, get_or, All, refl, sym, ap, ◌∙◌, subst, length-append, add-mul, arith}
 use Rattle.std.proofs.Math.Path.{fun_ext}
 use Rattle.std.proofs.lemmas.List.Elements.{All-push}
-use Rattle.mls_session.proofs.Words.{AddsOwner, AddsOwners, Config, HasRightMarks, IsChecked, Layout, Pool, blank, empty_picture, layout_in, layout_of, opening, opening_checking, picture_in, shown, unreserved}
+use Rattle.mls_session.proofs.Common.{AddsOwner, AddsOwners, Config, HasRightMarks, IsChecked, Layout, Pool, blank, empty_picture, layout_in, layout_of, opening, opening_checking, picture_in, shown, unreserved}
 use Rattle.mls_paint.proofs.OwnerFrames.{AddsOwners-push}
 use Rattle.mls_layout.proofs.PlacedUses.{flattened-no_uses}
 use Rattle.mls_errorplane.proofs.EmptyLayouts.{opening-IsChecked}

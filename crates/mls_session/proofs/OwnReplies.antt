@@ -2,7 +2,7 @@
 use Rattle.std.proofs.Common.{◌≡◌, ◌≢◌, ◌==◌, ◌+◌, ℕ, zero, suc, Bool, true, false, cond, length, Option, Some, None, refl, ap, ◌∙◌, eq-eqb, ne_eqb}
 use Rattle.std.specs.Option.{option_map_or}
 use Rattle.std.proofs.lemmas.Bool.{cond-false, cond-true}
-use Rattle.mls_session.proofs.Words.{Command, Config, Designed, Drawn, JournalFull, OwnState, Quota, Rect, Reply, Terms, caught_up, checked, design_step, ending, is_full, is_journalled, is_memory, is_refusal, own_step, rect_of, why_step}
+use Rattle.mls_session.proofs.Common.{Command, Config, Designed, Drawn, JournalFull, OwnState, Quota, Rect, Reply, Terms, caught_up, checked, design_step, ending, is_full, is_journalled, is_memory, is_refusal, own_step, rect_of, why_step}
 use Rattle.mls_session.specs.declared.command.Command.TheVariants.{Box, Paint, Erase, Dump, GetCell, What, Save, Check, CatchUp, Why, Count}
 use Rattle.mls_session.specs.declared.reply.Reply.TheVariants.{Done, Refused, Stopped}
 use Rattle.mls_session.proofs.DrawnSteps.{HoldsOfChanges, box_holds, check_holds, dump_holds, erase_holds, get_holds, paint_holds, what_holds}

@@ -3,7 +3,7 @@ use Rattle.std.proofs.Common.{◌≡◌, ◌≢◌, ℕ, zero, suc, ◌+◌, ℤ
 use Rattle.std.proofs.lemmas.Bool.{cond-false, cond-true}
 use Rattle.std.proofs.lemmas.List.Elements.{All-map}
 use Rattle.std.proofs.lemmas.Option.{get_or_from_slice_get, same_Some, slice_get_within}
-use Rattle.mls_session.proofs.Words.{CellUse, Command, Config, Designed, Drawn, Entry, HasStrips, HaveOwnCells, HoldsOwnTypes, IsLegal, JournalFull, Kept, Layout, OwnState, Picture, Pool, Rect, Reply, Run, Setup, ShowOwnTypes, ShowsOwnTypes, Tech, Terms, area_of, cell_at, cell_layout, cell_shown, checked, checks, design_step, dumped_layout, empty_picture, erased_layout, flattened, holds, kind_or_space, layout_in, layout_of, moved_picture, over, own_check, own_step, painted, plane_of_type, rect_of, run_from, said_next, terms_of, use_layout, uses_layout, why_step, with_plane, world}
+use Rattle.mls_session.proofs.Common.{CellUse, Command, Config, Designed, Drawn, Entry, HasStrips, HaveOwnCells, HoldsOwnTypes, IsLegal, JournalFull, Kept, Layout, OwnState, Picture, Pool, Rect, Reply, Run, Setup, ShowOwnTypes, ShowsOwnTypes, Tech, Terms, area_of, cell_at, cell_layout, cell_shown, checked, checks, design_step, dumped_layout, empty_picture, erased_layout, flattened, holds, kind_or_space, layout_in, layout_of, moved_picture, over, own_check, own_step, painted, plane_of_type, rect_of, run_from, said_next, terms_of, use_layout, uses_layout, why_step, with_plane, world}
 use Rattle.mls_kinds.specs.KindSets.{has_bit as has_type}
 use Rattle.mls_session.specs.declared.command.Command.TheVariants.{Box, Paint, Erase, Dump, GetCell, What, Save, Check, CatchUp, Why, Count}
 use Rattle.mls_session.specs.declared.reply.Reply.TheVariants.{Refused}

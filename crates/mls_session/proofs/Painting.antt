@@ -1,6 +1,6 @@
 -- Painting a type is repainting the plane on which it lies.
 use Rattle.std.proofs.Common.{◌≡◌, ℕ, ◌<◌, List, [], ◌∷◌, length, get_or, Option, Some}
-use Rattle.mls_session.proofs.Words.{AreAtHome, ChangesOnly, Config, Design, Drawn, Piece, Pool, Quota, Rect, Reply, drawn_of, overlaid, paint_step, picture_in, plane_of_type, repaint_step, tile_count, world}
+use Rattle.mls_session.proofs.Common.{AreAtHome, ChangesOnly, Config, Design, Drawn, Piece, Pool, Quota, Rect, Reply, drawn_of, overlaid, paint_step, picture_in, plane_of_type, repaint_step, tile_count, world}
 use Rattle.mls_session.specs.declared.reply.Reply.TheVariants.{Done, Refused}
 use Rattle.mls_session.proofs.RepaintedPlanes.{repaint_step-Done, repaint_step-Refused}
 

@@ -1,6 +1,6 @@
 -- Facts that hold for some replies, ends and lists only.
 use Rattle.std.proofs.Common.{◌≡◌, ℕ, Option, Some, None, List, Bor, subst, IfSome, option_copied}
-use Rattle.mls_session.proofs.Words.{Finished, OnSaved, Outcome, Reply, Stepped, UnlessDone, UnlessFinished}
+use Rattle.mls_session.proofs.Common.{Finished, OnSaved, Outcome, Reply, Stepped, UnlessDone, UnlessFinished}
 use Rattle.mls_errorplane.specs.declared.error_plane.Stepped.TheVariants.{Done}
 use Rattle.mls_session.specs.declared.reply.Reply.TheVariants.{Saved}
 

@@ -5,7 +5,7 @@ use Rattle.std.specs.List.{range_with_len}
 use Rattle.std.proofs.lemmas.Bool.{and_parts, cases_Bool, false_from_ne_true}
 use Rattle.std.proofs.lemmas.Int.{to_z-of_z}
 use Rattle.std.proofs.lemmas.List.Folds.{Any-from_list_any}
-use Rattle.mls_session.proofs.Words.{CellOutside, Layout, Rect, Refusal, bounds_placed, dumped_rect, has_paint, holds, layout_leaves_world, leaves_world, moved_rect, painted_bounds, placed_bounds, world, world_has}
+use Rattle.mls_session.proofs.Common.{CellOutside, Layout, Rect, Refusal, bounds_placed, dumped_rect, has_paint, holds, layout_leaves_world, leaves_world, moved_rect, painted_bounds, placed_bounds, world, world_has}
 use Rattle.mls_geom.proofs.Squares.{range_with_len-Contains}
 use Rattle.mls_library.proofs.FirstPlanes.{any_at}
 use Rattle.mls_library.proofs.SmallestRects.{IsBounds, IsBounds-bounds_of}

@@ -1,7 +1,7 @@
 -- Placing a cell: the step, and the design to which it leads.
 use Rattle.std.proofs.Common.{◌≡◌, ℕ, ℤ, ◌≤◌, ◌<◌, nat_le, true, false, Option, Some, List, [], ◌∷◌, ◌++◌, length, refl, sym, ap, ◌∙◌, arith}
 use Rattle.std.proofs.lemmas.Bool.Decides.{nat_tests}
-use Rattle.mls_session.proofs.Words.{CellOutside, CellUse, Config, Design, Drawn, Layout, Pool, Rect, TooManyUses, cell_at, checking_of, designed_of, dirty_after, drawn_of, edit_step, get_step, layout_in, layout_leaves_world, most_uses}
+use Rattle.mls_session.proofs.Common.{CellOutside, CellUse, Config, Design, Drawn, Layout, Pool, Rect, TooManyUses, cell_at, checking_of, designed_of, dirty_after, drawn_of, edit_step, get_step, layout_in, layout_leaves_world, most_uses}
 use Rattle.mls_session.specs.declared.reply.Reply.TheVariants.{Done, Refused}
 use Rattle.mls_session.proofs.CommandSteps.{edit_step-Done}
 

@@ -1,7 +1,7 @@
 -- Planes that are painted in turn, each by the plan that is kept for it.
 use Rattle.std.proofs.Common.{◌≡◌, ℕ, ◌+◌, ◌<◌, ◌≤◌, List, length, get_or, IfSome, sym, ap, subst, ◌∙◌}
 use Rattle.std.proofs.lemmas.List.{get_or_default}
-use Rattle.mls_session.proofs.Words.{ArePlanned, AreSearched, ChangesOnly, Design, FitsQuota, HasStrips, IsPlanFor, ListTouched, Picture, Plan, Pool, Scratch, block_at, layout_in, no_plan, overlaid, painted_over, picture_in, plan_of, planned_pieces, room_of, tile_count, tiles_of, world}
+use Rattle.mls_session.proofs.Common.{ArePlanned, AreSearched, ChangesOnly, Design, FitsQuota, HasStrips, IsPlanFor, ListTouched, Picture, Plan, Pool, Scratch, block_at, layout_in, no_plan, overlaid, painted_over, picture_in, plan_of, planned_pieces, room_of, tile_count, tiles_of, world}
 use Rattle.mls_session.proofs.ChangedPlanes.{IsMade, IsMade-more, picture_in-IsMade, tiles_of-IsMade}
 use Rattle.mls_session.proofs.HomePlanes.{count-at}
 

@@ -4,7 +4,7 @@ use Rattle.std.proofs.Math.Path.{fun_ext}
 use Rattle.std.proofs.lemmas.Bool.{cases_eq, cond-true, cond-false}
 use Rattle.std.proofs.lemmas.Bool.Decides.{nat_tests}
 use Rattle.std.proofs.lemmas.Option.{get_or_from_slice_get, slice_get_within}
-use Rattle.mls_session.proofs.Words.{AreAtHome, CellUse, ChangesOnly, Config, Design, Picture, Piece, Pool, Quota, Rect, drawn_of, layout_in, overlaid, picture_at, picture_in, repaint_step, shown, tile_count, with_plane, world}
+use Rattle.mls_session.proofs.Common.{AreAtHome, CellUse, ChangesOnly, Config, Design, Picture, Piece, Pool, Quota, Rect, drawn_of, layout_in, overlaid, picture_at, picture_in, repaint_step, shown, tile_count, with_plane, world}
 use Rattle.mls_paint.proofs.OwnerFrames.{layout_in-at}
 use Rattle.mls_session.specs.declared.reply.Reply.TheVariants.{Done, Refused}
 use Rattle.mls_session.proofs.HomePlanes.{owners_differ}

@@ -3,7 +3,7 @@ use Rattle.std.proofs.Common.{◌≡◌, ℕ, ℤ, ◌≤◌, false, ◌⊎◌, 
 use Rattle.std.proofs.Math.Path.{fun_ext}
 use Rattle.std.proofs.lemmas.List.Elements.{All-map}
 use Rattle.std.proofs.lemmas.Option.{get_or_from_slice_get, slice_get_within}
-use Rattle.mls_session.proofs.Words.{AgreeOutside, CellUse, Checking, Command, Config, DesignRunsOut, DesignSteps, Designed, Drawn, EdgeRule, Finding, HasFinished, HasRightMarks, HasStepped, IsChecked, Layout, Outcome, Pool, Rect, Reply, Stepped, area_of, catch_up_step, cell_at, cell_layouts, checked, count_step, design_step, dirty_after, dumped_in, dumped_layout, dumped_rect, edit_step, empty_picture, erased_layout, flattened, holds, layout_leaves_world, layout_of, moved_picture, rect_of, save_step, why_step, world}
+use Rattle.mls_session.proofs.Common.{AgreeOutside, CellUse, Checking, Command, Config, DesignRunsOut, DesignSteps, Designed, Drawn, EdgeRule, Finding, HasFinished, HasRightMarks, HasStepped, IsChecked, Layout, Outcome, Pool, Rect, Reply, Stepped, area_of, catch_up_step, cell_at, cell_layouts, checked, count_step, design_step, dirty_after, dumped_in, dumped_layout, dumped_rect, edit_step, empty_picture, erased_layout, flattened, holds, layout_leaves_world, layout_of, moved_picture, rect_of, save_step, why_step, world}
 use Rattle.mls_library.specs.Libraries.{HavePlanes, IsHome as AreCellsHome, Library, cell_layout}
 use Rattle.mls_errorplane.specs.declared.error_plane.Outcome.TheVariants as outcome
 use Rattle.mls_errorplane.specs.declared.error_plane.Stepped.TheVariants as stepped

@@ -3,7 +3,7 @@ use Rattle.std.proofs.Common.{◌≡◌, ℕ, ◌+◌, ◌*◌, ◌≤◌, ◌==
 use Rattle.std.proofs.lemmas.List.{length-map}
 use Rattle.std.proofs.lemmas.List.FromFn.{length-range_with_len}
 use Rattle.std.proofs.lemmas.List.Sums.{count_by-le-length, length-filter, sum_by-le}
-use Rattle.mls_session.specs.Words.{Picture, Piece, Rect, Tech, columns, first_name, is_corner, layer_lines, of_kind, rect_words, rows, section_lines, spaced, strips_of, tile_count, world}
+use Rattle.mls_session.specs.Common.{Picture, Piece, Rect, Tech, columns, first_name, is_corner, layer_lines, of_kind, rect_words, rows, section_lines, spaced, strips_of, tile_count, world}
 use Rattle.mls_geom.proofs.ListedStrips.{AreStrips-strips_of}
 use Rattle.mls_geom.proofs.StripLaws.{strips_number}
 

@@ -2,7 +2,7 @@
 use Rattle.std.proofs.Common.{◌≡◌, ℕ, suc, ◌-◌, ◌<◌, ◌≤◌, List, length, get_or, slice_get, Option, Some, ap, ◌∙◌, ne_eqb, arith, IfSome}
 use Rattle.std.proofs.lemmas.Bool.{cond-false}
 use Rattle.std.proofs.lemmas.Option.{slice_get-get_or}
-use Rattle.mls_session.proofs.Words.{IsSection, Layout, ListsPlane, Piece, Tech, layer_lines, plane_of_type}
+use Rattle.mls_session.proofs.Common.{IsSection, Layout, ListsPlane, Piece, Tech, layer_lines, plane_of_type}
 use Rattle.mls_session.proofs.SavedCounts.{layer_lines-few, strips_few}
 
 plane_of_next : (type_planes : List ℕ) (t : ℕ) → t < length type_planes → plane_of_type type_planes (suc t) ≡ Some (get_or type_planes t 0)

@@ -1,6 +1,6 @@
 -- A loop over the types that lists the strips of one type's plane in each turn: its text, and the number of its lines.
 use Rattle.std.proofs.Common.{◌≡◌, ℕ, ◌+◌, ◌-◌, ◌≤◌, ◌++◌, ◌<◌, Some, List, length, sym, ap, ◌∙◌, arith}
-use Rattle.mls_session.proofs.Words.{IsSection, Layout, Piece, Tech, header_lines, layer_lines, plane_of_type, saved_line_count, saved_text, strips_on, text_of}
+use Rattle.mls_session.proofs.Common.{IsSection, Layout, Piece, Tech, header_lines, layer_lines, plane_of_type, saved_line_count, saved_text, strips_on, text_of}
 use Rattle.mls_library.proofs.SavedRooms.{layer_fits}
 use Rattle.mls_library.proofs.SavedTexts.{count_up_to-all, count_up_to-more, count_up_to-none, lines_up_to, text_up_to-more}
 

@@ -1,7 +1,7 @@
 -- What looks at a session return.
 use Rattle.std.proofs.Common.{◌≡◌, ◌⊎◌, inl, inr, ◌++◌, [], ℕ, ℤ, true, false, List, Result, Ok, refl, sym, ap, ◌∙◌, append-nil}
 use Rattle.std.proofs.lemmas.Bool.{cond-false, cond-true}
-use Rattle.mls_session.proofs.Words.{CellUse, Checking, IsRect, JournalCopy, Kept, Layout, Look, Looked, Looks, Picture, Rect, RectFault, Status, Tech, Terms, areas_in, empty_layout, errors_of, exceeds_listed, layout_of, look_of, marked_line_count, marked_text, marks_picture, rect_of, saved_line_count, saved_text, squares_in, status_of, violations_of, why_in}
+use Rattle.mls_session.proofs.Common.{CellUse, Checking, IsRect, JournalCopy, Kept, Layout, Look, Looked, Looks, Picture, Rect, RectFault, Status, Tech, Terms, areas_in, empty_layout, errors_of, exceeds_listed, layout_of, look_of, marked_line_count, marked_text, marks_picture, rect_of, saved_line_count, saved_text, squares_in, status_of, violations_of, why_in}
 use Rattle.mls_session.specs.declared.look.Look.TheVariants.{Save, Why, Status as AskStatus, Uses as AskUses, Marks, Errors as AskErrors, Violations as AskViolations, Journal as AskJournal}
 use Rattle.mls_session.specs.declared.look.Looked.TheVariants.{Saved, Status as HasStatus, Uses as HasUses, Marked, Errors as HasErrors, Journal as HasJournal, Refused}
 use Rattle.mls_session.specs.declared.refusal.Refusal.TheVariants.{Memory, Quota}

@@ -1,6 +1,6 @@
 -- Check steps one after another, each of them accepted and counted.
 use Rattle.std.proofs.Common.{◌≡◌, ◌≢◌, ℕ, ◌+◌, ◌<◌, Some, refl, sym, ap, ◌∙◌, subst, arith}
-use Rattle.mls_session.proofs.Words.{ChecksOnce, ChecksTimes, IsLegal, Kept, OwnState, Stepped, StepsOnce, StepsUpTo, Terms, own_check}
+use Rattle.mls_session.proofs.Common.{ChecksOnce, ChecksTimes, IsLegal, Kept, OwnState, Stepped, StepsOnce, StepsUpTo, Terms, own_check}
 use Rattle.mls_errorplane.specs.declared.error_plane.Stepped.TheVariants as stepped
 use Rattle.mls_session.proofs.JournalRuns.{checks-entries, checks-last}
 use Rattle.mls_session.proofs.LegalJournals.{CountsEntries, with_checks-legal}

@@ -6,7 +6,7 @@ use Rattle.std.proofs.Math.Path.{fun_ext}
 use Rattle.std.proofs.lemmas.List.{take_more}
 use Rattle.std.proofs.lemmas.List.Elements.{All-push}
 use Rattle.std.proofs.lemmas.List.Folds.{list_any-append}
-use Rattle.mls_session.specs.Words.{LaidTile, Picture, Piece, holds, overlaid, painted}
+use Rattle.mls_session.specs.Common.{LaidTile, Picture, Piece, holds, overlaid, painted}
 use Rattle.mls_geom.proofs.Overlays.{overlaid_append}
 
 -- the square is in what is painted for one of the tiles

@@ -1,6 +1,6 @@
 -- Where a dump moves the smallest rectangle round the squares of a cell that aren't space. This project's own.
 use Rattle.std.specs.Prelude.{ℕ, ℤ, pos, ◌+ℤ◌, ◌-ℤ◌, Option, Some, None, Result, Ok, Err, option_and_then}
-use Rattle.mls_session.specs.Words.{Layout, Rect, RectFault, origin, painted_bounds, rect_of}
+use Rattle.mls_session.specs.Common.{Layout, Rect, RectFault, origin, painted_bounds, rect_of}
 
 abbrev pub or_none : Result Rect RectFault → Option Rect
 or_none (Ok rect) = Some rect

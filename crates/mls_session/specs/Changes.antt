@@ -1,7 +1,7 @@
 -- What erasing and dumping make of a picture, square by square. This project's own.
 use Rattle.std.specs.Prelude.{ℕ, ℤ, pos, ◌+ℤ◌, ◌==◌, int_le, int_lt, Bool, not, ◌&&◌, if◌then◌else◌}
 use Rattle.std.specs.List.{list_any, range_with_len}
-use Rattle.mls_session.specs.Words.{Layout, Picture, Rect, columns, holds, moved_picture, rows, world}
+use Rattle.mls_session.specs.Common.{Layout, Picture, Rect, columns, holds, moved_picture, rows, world}
 use Rattle.mls_kinds.specs.KindSets.{has_bit as has_type}
 
 -- the picture with space in the squares of the rectangle that have one of these kinds

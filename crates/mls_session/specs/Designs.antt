@@ -1,6 +1,6 @@
 -- What a caller sees of a design, its own state, and its planes in the pool.
 use Rattle.std.specs.Prelude.{◌≡◌, ◌≢◌, ℕ, Bool, true, false, if◌then◌else◌, Option, Some, None, IfSome, List, [], ◌∷◌, ◌++◌, length, ⊤, All, AllPairs, Contains}
-use Rattle.mls_session.specs.Words.{AreRightIn, CellUse, ChangesAmong, Checked, ErrorPlane, HasStrips, IsChecked, Pool, Rect, ShowsMarks, checking_of, layout_in, room_of}
+use Rattle.mls_session.specs.Common.{AreRightIn, CellUse, ChangesAmong, Checked, ErrorPlane, HasStrips, IsChecked, Pool, Rect, ShowsMarks, checking_of, layout_in, room_of}
 use Rattle.mls_library.specs.Libraries.{HavePlanes, IsHome as AreCellsHome, ShowOwnTypes}
 use Rattle.mls_session.specs.Own.{Config, Designed, Drawn, layout_of}
 use Rattle.mls_session.specs.Quotas.{plane_reserve}

@@ -1,7 +1,7 @@
 -- The words of private contracts. A caller needs none of them.
 use Rattle.std.specs.Prelude.{◌≡◌, ℕ, ℤ, Result, Ok, Err, ◌+◌, ◌*◌, ◌^◌, ◌++◌, ◌<◌, ◌≤◌, false, true, if◌then◌else◌, Option, Some, None, List, [], ◌∷◌, IfSome, get_or, length, map, All}
 use Rattle.std.specs.List.{range_with_len}
-use Rattle.mls_session.specs.Words.{CaughtUp, IsDirtyList, IsFrozen, IsPlanFor, Layout, Outcome, Picture, Piece, Pool, Rect, Scratch, Stepped, Tech, area_of, layer_lines, layout_in, overlaid, picture_in, plan_of, plane_of_type, room_of, strips_on, tile_count, world}
+use Rattle.mls_session.specs.Common.{CaughtUp, IsDirtyList, IsFrozen, IsPlanFor, Layout, Outcome, Picture, Piece, Pool, Rect, Scratch, Stepped, Tech, area_of, layer_lines, layout_in, overlaid, picture_in, plan_of, plane_of_type, room_of, strips_on, tile_count, world}
 use Rattle.mls_session.specs.Bounds.{moved_rect}
 use Rattle.mls_session.specs.Changes.{dumped, erased, leaves_world}
 use Rattle.mls_session.specs.Designs.{Design, IsHome, KeepsPlanes, designed_of, drawn_of}

@@ -1,7 +1,7 @@
 -- A session's journal: what was said, and how many check steps were done in between. A journal is legal where a session of its own, by the same commands
 -- and check steps, gives the same replies. This project's own.
 use Rattle.std.specs.Prelude.{◌≡◌, ◌≢◌, ℕ, ◌+◌, ◌<◌, ◌++◌, ◌&&◌, Bool, true, false, not, if◌then◌else◌, ◌⊎◌, Option, Some, None, List, [], ◌∷◌, length, map, All, option_and_then, option_map}
-use Rattle.mls_session.specs.Words.{EdgeRule, Finding, IsFresh, Layout, Outcome, Stepped, Tech, saved_text}
+use Rattle.mls_session.specs.Common.{EdgeRule, Finding, IsFresh, Layout, Outcome, Stepped, Tech, saved_text}
 use Rattle.mls_errorplane.specs.declared.error_plane.Outcome.TheVariants.{Finished, Stale, Full as FinishFull}
 use Rattle.mls_errorplane.specs.declared.error_plane.Stepped.TheVariants.{Idle, Done as StepDone, Full, Memory as StepMemory}
 use Rattle.mls_session.specs.Own.{layout_of}

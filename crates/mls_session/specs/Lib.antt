@@ -1,5 +1,6 @@
 pub mod Bounds
 pub mod Changes
+pub mod Common
 pub mod Designs
 pub mod Inner
 pub mod JournalCopies
@@ -13,7 +14,6 @@ pub mod Refusals
 pub mod Saving
 pub mod Sessions
 pub mod Setups
-pub mod Words
 pub use Rattle.mls_checker.specs as mls_checker
 pub use Rattle.mls_errorplane.specs as mls_errorplane
 pub use Rattle.mls_layout.specs as mls_layout

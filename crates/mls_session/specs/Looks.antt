@@ -1,7 +1,7 @@
 -- What a look returns: a definition of what the session keeps, which the look leaves as it is. This project's own.
 use Rattle.std.specs.Prelude.{◌≡◌, ◌⊎◌, ℕ, List, [], Result, Ok, Err, if◌then◌else◌, false, length, map, nat_lt, ⊤, All}
 use Rattle.std.specs.List.{range_with_len}
-use Rattle.mls_session.specs.Words.{Checking, EdgeRule, IsRectangleIn, Layout, ReadsAs, Rect, RectFault, Tech, Violation, areas_in, empty_layout, marked_line_count, marked_text, marks_picture, meets, rect_of, saved_line_count, saved_text, squares_in, squares_in_all, strip_count, tile_count, violated_rules, violations_in, world}
+use Rattle.mls_session.specs.Common.{Checking, EdgeRule, IsRectangleIn, Layout, ReadsAs, Rect, RectFault, Tech, Violation, areas_in, empty_layout, marked_line_count, marked_text, marks_picture, meets, rect_of, saved_line_count, saved_text, squares_in, squares_in_all, strip_count, tile_count, violated_rules, violations_in, world}
 use Rattle.mls_geom.specs.declared.rect.RectFault.TheVariants.{Empty, Outside}
 use Rattle.mls_session.specs.Designs.{HasRightMarks}
 use Rattle.mls_session.specs.Journals.{Kept}

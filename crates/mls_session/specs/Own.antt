@@ -1,7 +1,7 @@
 -- What a design's commands do to a box, a layout and what is known of it. This project's own.
 use Rattle.std.specs.Prelude.{ℕ, ℤ, ◌==◌, nat_le, nat_lt, if◌then◌else◌, Bool, not, Option, Some, None, Result, Ok, Err, List, [], ◌∷◌, ◌++◌, length, slice_get, count_by, sum_by, option_and_then}
 use Rattle.std.specs.List.{list_all, list_any, range_with_len}
-use Rattle.mls_session.specs.Words.{CellUse, Checking, EdgeRule, Layout, Picture, Rect, RectFault, SquareSet, Tech, columns, dirtied, empty_picture, flattened, members, most_flat_tiles, most_uses, opening_checking, painted, plane_of_type, rows, saved_line_count, set_of, shows, tile_count, violated_rules, world}
+use Rattle.mls_session.specs.Common.{CellUse, Checking, EdgeRule, Layout, Picture, Rect, RectFault, SquareSet, Tech, columns, dirtied, empty_picture, flattened, members, most_flat_tiles, most_uses, opening_checking, painted, plane_of_type, rows, saved_line_count, set_of, shows, tile_count, violated_rules, world}
 use Rattle.mls_geom.specs.declared.rect.RectFault.TheVariants.{Empty, Outside}
 use Rattle.mls_session.specs.Bounds.{dumped_rect}
 use Rattle.mls_session.specs.Changes.{dumped, erased, layout_leaves_world}

@@ -2,7 +2,7 @@
 -- memory is not part of it, and stands beside it. This project's own.
 use Rattle.std.specs.Prelude.{◌≡◌, ◌≢◌, ℕ, zero, suc, ◌+◌, ◌==◌, ◌||◌, if◌then◌else◌, ◌⊎◌, Option, Some, None, List, [], length, All, option_and_then, option_map}
 use Rattle.std.specs.Option.{option_map_or}
-use Rattle.mls_session.specs.Words.{Checking, EdgeRule, ShowsOwnTypes, area_of, check_step, exceeds, rect_of}
+use Rattle.mls_session.specs.Common.{Checking, EdgeRule, ShowsOwnTypes, area_of, check_step, exceeds, rect_of}
 use Rattle.mls_session.specs.Own.{Config, Designed, box_step, cell_at, check_in, count_step, dump_step, dumped_in, edit_step, erase_step, get_step, layout_of, opening, paint_step, save_step, what_step, why_step}
 use Rattle.mls_session.specs.declared.command.Command.{Command}
 use Rattle.mls_session.specs.declared.command.Command.TheVariants.{Box, Paint, Erase, Dump, GetCell, What, Save, Check, CatchUp, Why, Count}

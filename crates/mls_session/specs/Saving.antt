@@ -1,6 +1,6 @@
 -- What saving a layout returns. This project's own.
 use Rattle.std.specs.Prelude.{◌≡◌, ℕ, List, ◌++◌, ⊤}
-use Rattle.mls_session.specs.Words.{Layout, Tech, saved_line_count, saved_text}
+use Rattle.mls_session.specs.Common.{Layout, Tech, saved_line_count, saved_text}
 use Rattle.mls_session.specs.declared.refusal.Refusal.TheVariants.{Memory}
 use Rattle.mls_session.specs.declared.reply.Reply.{Reply}
 use Rattle.mls_session.specs.declared.reply.Reply.TheVariants.{Done, Kinds, Saved, Count, Why, Refused, Stopped}

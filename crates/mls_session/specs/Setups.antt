@@ -1,5 +1,5 @@
 -- What no command of a session changes. This project's own.
-use Rattle.mls_session.specs.Words.{Pool, cell_layouts}
+use Rattle.mls_session.specs.Common.{Pool, cell_layouts}
 use Rattle.mls_session.specs.Own.{Config}
 use Rattle.mls_session.specs.OwnSteps.{Terms}
 use Rattle.mls_session.specs.declared.setup.Setup.{Setup}

@@ -1,6 +1,6 @@
 //! What commands change on several planes.
 ghost use Rattle.std.specs.Prelude.{◌≡◌, ◌≤◌, false, max, length, vec_capacity, IfSome};
-ghost use Rattle.mls_session.specs.Words.{HasRoomFor, HasStrips, IsFrozen, KeepsRoom, Picture, most_tiles, overlaid, picture_in, room_of};
+ghost use Rattle.mls_session.specs.Common.{HasRoomFor, HasStrips, IsFrozen, KeepsRoom, Picture, most_tiles, overlaid, picture_in, room_of};
 ghost use Rattle.mls_session.specs.Changes.{dumped, erased, leaves_world};
 ghost use Rattle.mls_session.specs.Inner.{CanChange, HasCapacityFor, changed};
 

@@ -1,6 +1,6 @@
 //! One design: a box, the planes of its own paint, its uses, its error plane, and what each command does to them.
 ghost use Rattle.std.specs.Prelude.{◌≡◌, ◌*◌, ◌+◌, ◌≤◌, IfOk, OnErr, length};
-ghost use Rattle.mls_session.specs.Words.{AddsOwners, IsDirtyList, RemovesOwners, layout_in, unreserved};
+ghost use Rattle.mls_session.specs.Common.{AddsOwners, IsDirtyList, RemovesOwners, layout_in, unreserved};
 ghost use Rattle.mls_session.specs.Designs.{AreAtHome};
 ghost use Rattle.mls_session.specs.Inner.{Counts};
 ghost use Rattle.mls_session.specs.Own.{blank, opening};

@@ -1,7 +1,7 @@
 //! The strips of a layout's planes, listed one plane after another, and the text of a layout with its marks.
 ghost use Rattle.std.specs.Prelude.{◌≡◌, ◌^◌, ◌≤◌, ◌++◌, IfErr, IfOk, OnErr, OnOk, [], false, true, length, All};
 ghost use Rattle.std.specs.Option.{option_map_or};
-ghost use Rattle.mls_session.specs.Words.{Extends, FitsWorkspace, HasPlane, IfTooMany, IsHome, Layout, Picture, flat_layout, layers_lines, marked_line_count, marked_text, plane_of_type, strips_of, strips_on, text_of, type_numbers, world};
+ghost use Rattle.mls_session.specs.Common.{Extends, FitsWorkspace, HasPlane, IfTooMany, IsHome, Layout, Picture, flat_layout, layers_lines, marked_line_count, marked_text, plane_of_type, strips_of, strips_on, text_of, type_numbers, world};
 ghost use Rattle.mls_session.specs.Inner.{ListsPlanes};
 ghost use Rattle.mls_session.specs.Own.{exceeds_tiles};
 

@@ -1,6 +1,6 @@
 //! Sessions: what each command and each check step does to a design, and what the journal keeps of it.
 ghost use Rattle.std.specs.Prelude.{◌≡◌, ◌*◌, ◌+◌, ◌++◌, ◌≤◌, ◌<◌, IfOk, OnErr, List, ℕ, length, vec_capacity, vec_len};
-ghost use Rattle.mls_session.specs.Words.{AddsOwners, ReadsAs, RemovesOwners, cell_layouts, saved_text, unreserved};
+ghost use Rattle.mls_session.specs.Common.{AddsOwners, ReadsAs, RemovesOwners, cell_layouts, saved_text, unreserved};
 ghost use Rattle.mls_library.specs.Libraries as library_spec;
 ghost use Rattle.mls_session.specs.Designs.{HasRightMarks, OnRefused};
 ghost use Rattle.mls_session.specs.Journals.{Commands, IsLegal, Saves, kept_at_opening};

@@ -1,6 +1,6 @@
 //! Commands that change several planes: all of them, or none.
 ghost use Rattle.std.specs.Prelude.{◌≡◌, ◌<◌, ◌≤◌, IsTrue, not, length, ℕ};
-ghost use Rattle.mls_session.specs.Words.{ChangesAmong, layout_in, most_planes};
+ghost use Rattle.mls_session.specs.Common.{ChangesAmong, layout_in, most_planes};
 ghost use Rattle.mls_session.specs.Inner.{ArePlanned, CanChange, FitsQuota, ListsChange, ReadsAtMost, StepsTo, changed_layout, painted_over, planned_pieces};
 ghost use Rattle.mls_session.specs.Own.{Config, are_types, change_step, edit_step, exceeds_quota};
 ghost use Rattle.mls_session.specs.Setups.{config_of};

@@ -1,6 +1,6 @@
 //! Commands on what awaits checking, and on the marks.
 ghost use Rattle.std.specs.Prelude.{◌≡◌, ◌<◌, ◌≤◌, IfErr, IfOk, OnOk, length};
-ghost use Rattle.mls_session.specs.Words.{AreRightIn, HasFinished, HasGrabbed, HasStepped, IfTooMany, IsDirtyList, Pool, Steps, UnlessDone, UnlessFinished, checking_of, strip_count, violated_rules, violations_in};
+ghost use Rattle.mls_session.specs.Common.{AreRightIn, HasFinished, HasGrabbed, HasStepped, IfTooMany, IsDirtyList, Pool, Steps, UnlessDone, UnlessFinished, checking_of, strip_count, violated_rules, violations_in};
 ghost use Rattle.mls_session.specs.Inner.{Counts, KeepsDrawn, caught_up_reply, layout_shown, steps_of};
 ghost use Rattle.mls_session.specs.Own.{count_step, dirty_after};
 ghost use Rattle.mls_session.specs.OwnSteps.{DesignSteps, design_step};

@@ -1,6 +1,6 @@
 //! The text of a design's layout with what is known of the squares that rules forbid there, as a cell file.
 ghost use Rattle.std.specs.Prelude.{◌≡◌, ◌++◌, IfErr, IfOk, OnErr, OnOk, false, true};
-ghost use Rattle.mls_session.specs.Words.{HoldsOwnTypes, IfTooMany, Layout, Picture, ReadsAs, areas_in, checking_of, empty_layout, marked_line_count, marked_text, marks_picture, saved_text, squares_in};
+ghost use Rattle.mls_session.specs.Common.{HoldsOwnTypes, IfTooMany, Layout, Picture, ReadsAs, areas_in, checking_of, empty_layout, marked_line_count, marked_text, marks_picture, saved_text, squares_in};
 ghost use Rattle.mls_session.specs.Inner.{layout_shown};
 ghost use Rattle.mls_session.specs.Own.{exceeds_listed};
 ghost use Rattle.mls_session.specs.Setups.{config_of};

@@ -1,6 +1,6 @@
 //! Commands on the box.
 ghost use Rattle.std.specs.Prelude.{◌≡◌, [], IfOk, IsOk, None, length, All};
-ghost use Rattle.mls_session.specs.Words.{FitsWorkspace, HasPlane, Pool, flat_layout};
+ghost use Rattle.mls_session.specs.Common.{FitsWorkspace, HasPlane, Pool, flat_layout};
 ghost use Rattle.mls_library.specs.Libraries.{IsHome as AreCellsHome};
 ghost use Rattle.mls_session.specs.Own.{Config, box_step, edit_step, types_in};
 ghost use Rattle.mls_session.specs.Inner.{StepsTo};

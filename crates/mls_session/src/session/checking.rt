@@ -1,6 +1,6 @@
 //! Check steps of a session, and what a check outside it needs and leads to.
 ghost use Rattle.std.specs.Prelude.{◌≡◌, length};
-ghost use Rattle.mls_session.specs.Words.{HasGrabbed, UnlessDone, UnlessFinished};
+ghost use Rattle.mls_session.specs.Common.{HasGrabbed, UnlessDone, UnlessFinished};
 ghost use Rattle.mls_session.specs.Designs.{KnowsRight};
 ghost use Rattle.mls_session.specs.Inner.{done_steps, finished_steps};
 ghost use Rattle.mls_session.specs.Journals.{ChecksTimes, Finishes, StepsOnce, StepsUpTo};

@@ -1,6 +1,6 @@
 //! Looks at a session.
 ghost use Rattle.std.specs.Prelude.{◌≡◌, ◌+◌, ◌++◌, ◌<◌, ◌⊎◌, [], List, length, vec_capacity, vec_len, ℕ};
-ghost use Rattle.mls_session.specs.Words.{Pool, saved_text};
+ghost use Rattle.mls_session.specs.Common.{Pool, saved_text};
 ghost use Rattle.mls_session.specs.Looks as spec;
 ghost use Rattle.mls_session.specs.Looks.{ErrorsReadBack, IsRect, Looks, MarksReadBack, OnMarks, ViolationsAreMarks, errors_of, violations_of, why_in};
 ghost use Rattle.mls_session.specs.Own.{layout_of};

@@ -1,6 +1,6 @@
 use Rattle.std.proofs.Common.{refl, subst, take, arith, take_all}
 use Rattle.std.proofs.lemmas.List.Elements.{All-push}
-use Rattle.mls_errorplane.proofs.Words.{LaidTile, Rect, RunsThrough}
+use Rattle.mls_errorplane.proofs.Common.{LaidTile, Rect, RunsThrough}
 use Rattle.mls_checker.proofs.Prefixes.{take_next}
 use Rattle.mls_errorplane.proofs.carrying.all_run_through.Goals as goal
 

@@ -1,6 +1,6 @@
 use Rattle.std.proofs.Common.{List, length, map, vec_capacity, ap, subst, ◌∙◌, arith}
 use Rattle.std.proofs.lemmas.List.{length-map}
-use Rattle.mls_errorplane.proofs.Words.{AreInArea, LaidTile, Rect, block_at, piece_like, room_of, tiles_of}
+use Rattle.mls_errorplane.proofs.Common.{AreInArea, LaidTile, Rect, block_at, piece_like, room_of, tiles_of}
 use Rattle.mls_errorplane.proofs.CarriedMarks.{Paints-like, fewer_than_room, length-found, within_room}
 use Rattle.mls_errorplane.proofs.carrying.list_carried.Goals as goal
 

@@ -1,5 +1,5 @@
 use Rattle.std.proofs.Common.{List, All, length, ap, subst, arith}
-use Rattle.mls_errorplane.proofs.Words.{LaidTile, MeetArea, Rect, RunsThrough, block_at, tiles_of}
+use Rattle.mls_errorplane.proofs.Common.{LaidTile, MeetArea, Rect, RunsThrough, block_at, tiles_of}
 use Rattle.mls_errorplane.proofs.CarriedCounts.{IfSome-leads, LeavesRoom-all, LeavesRoom-found}
 use Rattle.mls_errorplane.proofs.carrying.most_after.Goals as goal
 

@@ -1,5 +1,5 @@
 use Rattle.std.proofs.Common.{List, All, subst, take_all}
-use Rattle.mls_errorplane.proofs.Words.{LaidTile, ShowsBeside, marks}
+use Rattle.mls_errorplane.proofs.Common.{LaidTile, ShowsBeside, marks}
 use Rattle.mls_errorplane.proofs.ShownBeside.{beside-next}
 use Rattle.mls_errorplane.proofs.differing.bounds_of_differing.Goals as goal
 

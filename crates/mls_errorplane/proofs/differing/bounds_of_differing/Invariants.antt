@@ -1,6 +1,6 @@
 -- beside the bounds the tiles so far show the marks
 use Rattle.std.proofs.Common.{All, take}
-use Rattle.mls_errorplane.proofs.Words.{IsWithin, ShowsBeside, marks}
+use Rattle.mls_errorplane.proofs.Common.{IsWithin, ShowsBeside, marks}
 use Rattle.mls_errorplane.proofs.differing.bounds_of_differing.Given as goal
 
 abbrev pub invariant-loop-tile : goal.invariant-loop-tile

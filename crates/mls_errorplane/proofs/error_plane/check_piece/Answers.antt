@@ -1,5 +1,5 @@
 use Rattle.std.proofs.Common.{sym, ap, ◌∙◌}
-use Rattle.mls_errorplane.specs.Words.{Rect, flat_layout, within}
+use Rattle.mls_errorplane.specs.Common.{Rect, flat_layout, within}
 use Rattle.mls_errorplane.proofs.CheckedMarks.{flat-AgreeOutside, found-forbidden}
 use Rattle.mls_errorplane.proofs.error_plane.check_piece.Goals as goal
 

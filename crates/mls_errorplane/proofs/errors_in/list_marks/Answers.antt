@@ -1,5 +1,5 @@
 use Rattle.std.proofs.Common.{List, length, ap, ◌∙◌, ◌∷◌, arith, filter_map}
-use Rattle.mls_errorplane.specs.Words.{LaidTile, room_of, world}
+use Rattle.mls_errorplane.specs.Common.{LaidTile, room_of, world}
 use Rattle.mls_geom.proofs.WholePlanes.{space}
 use Rattle.mls_errorplane.specs.ErrorsIn.{marked_part}
 use Rattle.mls_errorplane.proofs.CarriedMarks.{length-found}

@@ -1,5 +1,5 @@
 use Rattle.std.proofs.Common.{◌∷◌, ◌++◌, ◌∙◌, [], length, Some, None, Vec, Global, vec_capacity, ap, sym, arith, take, filter_map, append-nil, length-take}
-use Rattle.mls_errorplane.specs.Words.{Piece, world}
+use Rattle.mls_errorplane.specs.Common.{Piece, world}
 use Rattle.mls_errorplane.specs.ErrorsIn.{marked_part}
 use Rattle.mls_errorplane.proofs.ErrorsIn.{filter_map-few, filter_map-more}
 use Rattle.mls_errorplane.proofs.errors_in.list_parts.Goals as goal

@@ -1,6 +1,6 @@
 use Rattle.std.proofs.Common.{ap, subst, ◌∙◌}
 use Rattle.std.proofs.lemmas.Result.{on_ok_weaker}
-use Rattle.mls_errorplane.specs.Words.{GainViolations, Layout, Pool, flat_layout}
+use Rattle.mls_errorplane.specs.Common.{GainViolations, Layout, Pool, flat_layout}
 use Rattle.mls_errorplane.proofs.GatheredViolations.{GainViolations-halves}
 use Rattle.mls_errorplane.proofs.gathering.+gather.Goals as goal
 

@@ -1,5 +1,5 @@
 use Rattle.std.proofs.Common.{◌≡◌, ap, subst, ◌∙◌}
-use Rattle.mls_errorplane.specs.Words.{GainSomeViolations, GainViolations, Layout, Pool, copied_layout, flat_layout, within, zone_of}
+use Rattle.mls_errorplane.specs.Common.{GainSomeViolations, GainViolations, Layout, Pool, copied_layout, flat_layout, within, zone_of}
 use Rattle.mls_errorplane.proofs.CheckedMarks.{flat-AgreeOutside}
 use Rattle.mls_errorplane.proofs.GatheredViolations.{GainSomeViolations-none, GainSomeViolations-zone, GainViolations-zone}
 use Rattle.mls_errorplane.proofs.gathering.gather_or_cut.Goals as goal

@@ -1,5 +1,5 @@
 use Rattle.std.proofs.Common.{◌≡◌, ◌<◌, ℕ, ◌-◌, List, ◌∷◌, ◌++◌, length, map, sym, ap, ◌∙◌, arith}
-use Rattle.mls_errorplane.proofs.Words.{Rect, Violation, areas_at, listed_violation, rules_in, set_strips, squares_within, strip_count}
+use Rattle.mls_errorplane.proofs.Common.{Rect, Violation, areas_at, listed_violation, rules_in, set_strips, squares_within, strip_count}
 use Rattle.mls_errorplane.proofs.CountedStrips.{count-push, listed-next, over-limit}
 use Rattle.mls_errorplane.proofs.Refusals.{IfErr-weaker}
 use Rattle.mls_errorplane.proofs.gathering.list_violations.Goals as goal

@@ -1,5 +1,5 @@
 use Rattle.std.proofs.Common.{◌≡◌, ◌+◌, ◌++◌, map}
-use Rattle.mls_errorplane.proofs.Words.{listed_violation, rules_in, strip_count}
+use Rattle.mls_errorplane.proofs.Common.{listed_violation, rules_in, strip_count}
 use Rattle.mls_errorplane.proofs.gathering.list_violations.Given as goal
 
 -- the violations so far and those of the rules that are left; and how many strips there may be more

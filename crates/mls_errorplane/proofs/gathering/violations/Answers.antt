@@ -1,5 +1,5 @@
 use Rattle.std.proofs.Common.{ap, subst, sym, ◌∙◌, arith}
-use Rattle.mls_errorplane.proofs.Words.{GainViolations, Layout, Pool, flat_layout, strip_count}
+use Rattle.mls_errorplane.proofs.Common.{GainViolations, Layout, Pool, flat_layout, strip_count}
 use Rattle.mls_errorplane.proofs.GatheredViolations.{listed-violations, violations-none}
 use Rattle.mls_errorplane.proofs.gathering.violations.Goals as goal
 

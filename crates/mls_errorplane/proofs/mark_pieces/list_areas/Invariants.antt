@@ -1,5 +1,5 @@
 use Rattle.std.proofs.Common.{◌≡◌, ◌+◌, ◌≤◌, length, take, vec_capacity}
-use Rattle.mls_errorplane.proofs.Words.{Paints, squares_of}
+use Rattle.mls_errorplane.proofs.Common.{Paints, squares_of}
 use Rattle.mls_errorplane.proofs.mark_pieces.list_areas.Given as goal
 
 -- the pieces mark the squares that the part has of the areas so far

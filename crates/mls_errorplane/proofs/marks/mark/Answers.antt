@@ -1,5 +1,5 @@
 use Rattle.std.proofs.Common.{◌≡◌, ℕ, ◌<◌, ◌↔◌, IsErr, false, true, refl, sym, ap, subst, ◌∙◌, arith}
-use Rattle.mls_errorplane.proofs.Words.{Marks, Picture, Rect, marked_count, marks, overlaid, picture_in, remarked, square_count, tile_count, world}
+use Rattle.mls_errorplane.proofs.Common.{Marks, Picture, Rect, marked_count, marks, overlaid, picture_in, remarked, square_count, tile_count, world}
 use Rattle.mls_errorplane.proofs.RectCounts.{marked_count-anew, marked_count-part, marked_count-remarked}
 use Rattle.mls_errorplane.proofs.ShownBeside.{overlaid-found}
 use Rattle.mls_errorplane.proofs.ShownMarks.{on_ok, remarked-found}

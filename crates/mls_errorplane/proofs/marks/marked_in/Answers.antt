@@ -1,5 +1,5 @@
 use Rattle.std.proofs.Common.{List, ap, sym, ◌∙◌, arith, sum_by, take_all}
-use Rattle.mls_errorplane.specs.Words.{LaidTile, picture_in, world}
+use Rattle.mls_errorplane.specs.Common.{LaidTile, picture_in, world}
 use Rattle.mls_errorplane.specs.PaintedMarks.{marked_part}
 use Rattle.mls_errorplane.proofs.FoundCounts.{marked_count-found, next_part-le}
 use Rattle.mls_errorplane.proofs.MarkCounts.{marked_count-le}

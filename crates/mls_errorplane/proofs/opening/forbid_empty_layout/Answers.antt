@@ -2,7 +2,7 @@ use Rattle.std.proofs.Common.{List, ap, sym, ◌∙◌, rules, tests}
 use Rattle.std.specs.List.{list_any}
 use Rattle.std.proofs.lemmas.Iterator.{YieldsList-from_slice}
 use Rattle.std.proofs.lemmas.Iterator.Search.{any_from_yields_List}
-use Rattle.mls_errorplane.proofs.Words.{EdgeRule, forbids_space}
+use Rattle.mls_errorplane.proofs.Common.{EdgeRule, forbids_space}
 use Rattle.mls_errorplane.proofs.EmptyLayouts.{forbids_any_of_space}
 use Rattle.mls_errorplane.proofs.opening.forbid_empty_layout.Goals as goal
 

@@ -1,7 +1,7 @@
 use Rattle.std.proofs.Common.{◌<◌, List, inl, inr, map, length, ap, ◌∙◌, refl, sym, subst, arith}
 use Rattle.std.proofs.lemmas.Bool.{cases_lt, false≢true}
 use Rattle.std.proofs.lemmas.List.{length-map}
-use Rattle.mls_errorplane.proofs.Words.{Covers, Piece, covered_count, laid, set_strips, squares_within, world}
+use Rattle.mls_errorplane.proofs.Common.{Covers, Piece, covered_count, laid, set_strips, squares_within, world}
 use Rattle.mls_errorplane.proofs.Refusals.{IfErr-holds}
 use Rattle.mls_errorplane.proofs.SetStrips.{length-set_strips, set_strips-covered}
 use Rattle.mls_errorplane.proofs.set_strips.find_strips.Goals as goal

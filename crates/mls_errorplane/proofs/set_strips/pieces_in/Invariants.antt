@@ -1,5 +1,5 @@
 use Rattle.std.proofs.Common.{take}
-use Rattle.mls_errorplane.proofs.Words.{Covers, laid, squares_within}
+use Rattle.mls_errorplane.proofs.Common.{Covers, laid, squares_within}
 use Rattle.mls_errorplane.proofs.set_strips.pieces_in.Given as goal
 
 -- the pieces cover the squares of the areas so far

@@ -1,6 +1,6 @@
 use Rattle.std.proofs.Common.{take, refl, arith, take_all}
 use Rattle.std.proofs.lemmas.List.Elements.{All-push}
-use Rattle.mls_errorplane.proofs.Words.{IsSettled, marks}
+use Rattle.mls_errorplane.proofs.Common.{IsSettled, marks}
 use Rattle.mls_checker.proofs.Prefixes.{take_next}
 use Rattle.mls_errorplane.proofs.shown_marks.are_settled.Goals as goal
 

@@ -1,6 +1,6 @@
 -- the tiles so far are settled
 use Rattle.std.proofs.Common.{All, take}
-use Rattle.mls_errorplane.proofs.Words.{IsSettled, marks}
+use Rattle.mls_errorplane.proofs.Common.{IsSettled, marks}
 use Rattle.mls_errorplane.proofs.shown_marks.are_settled.Given as goal
 
 abbrev pub invariant-loop-tile : goal.invariant-loop-tile

@@ -1,5 +1,5 @@
 use Rattle.std.proofs.Common.{ap, sym, ◌∙◌}
-use Rattle.mls_errorplane.specs.Words.{Pool, flat_layout, union, violated_rules, within, zone_of}
+use Rattle.mls_errorplane.specs.Common.{Pool, flat_layout, union, violated_rules, within, zone_of}
 use Rattle.mls_errorplane.proofs.ViolatedParts.{violated_rules-parts}
 use Rattle.mls_errorplane.proofs.CheckedMarks.{flat-AgreeOutside}
 use Rattle.mls_errorplane.proofs.ViolatedNear.{violated_rules-zone}

@@ -2,7 +2,7 @@
 use Rattle.std.proofs.Common.{◌≡◌, ◌≢◌, ◌==◌, ℕ, Bool, true, false, not, to_z, of_z, w32, ap, subst, sym, ◌∙◌, arith, take_all}
 use Rattle.std.proofs.lemmas.Bool.Decides.{nat_tests}
 use Rattle.std.proofs.lemmas.Int.{to_z-of_z}
-use Rattle.mls_session.specs.Words.{AreInArea, block_at, moved_picture, shown, tiles_of, world}
+use Rattle.mls_session.specs.Common.{AreInArea, block_at, moved_picture, shown, tiles_of, world}
 use Rattle.mls_stitch.proofs.ShownTiles.{KeysDiffer-tiles_of}
 use Rattle.mls_session.proofs.MovedTiles.{dumps, dumps-space, few-dumped, holds-moved, kind-dumps, legal_there, moved_rect-some, overlaid-dumps}
 use Rattle.mls_session.proofs.TilePieces.{ArePatches, ArePatches-left, ArePatches-made}

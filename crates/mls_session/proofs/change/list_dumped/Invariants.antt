@@ -1,5 +1,5 @@
 use Rattle.std.proofs.Common.{◌≡◌, take, vec_capacity}
-use Rattle.mls_session.specs.Words.{moved_picture, picture_in}
+use Rattle.mls_session.specs.Common.{moved_picture, picture_in}
 use Rattle.mls_session.proofs.MovedTiles.{dumps}
 use Rattle.mls_session.proofs.TilePieces.{ArePatches}
 use Rattle.mls_session.proofs.change.list_dumped.Given as goal

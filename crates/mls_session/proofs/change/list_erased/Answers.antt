@@ -1,6 +1,6 @@
 -- Each turn makes a piece for a tile of these types.
 use Rattle.std.proofs.Common.{length, refl, ap, subst, sym, ◌∙◌, arith, vec_capacity, take_all}
-use Rattle.mls_session.specs.Words.{AreInArea, block_at, empty_picture, room_of, tiles_of}
+use Rattle.mls_session.specs.Common.{AreInArea, block_at, empty_picture, room_of, tiles_of}
 use Rattle.mls_stitch.proofs.ShownTiles.{KeysDiffer-tiles_of}
 use Rattle.mls_errorplane.proofs.CarriedMarks.{fewer_than_room, length-found, within_room}
 use Rattle.mls_session.proofs.ErasedTiles.{clipped-there, erases, erases-other, holds-clipped, overlaid-erases}

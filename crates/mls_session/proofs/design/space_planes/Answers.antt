@@ -1,6 +1,6 @@
 -- Each turn adds a plane of space.
 use Rattle.std.proofs.Common.{◌≡◌, ◌+◌, ◌*◌, length, sym, subst, ◌∙◌, arith}
-use Rattle.mls_session.proofs.Words.{AddsOwner, AddsOwners, AreAtHome, plane_reserve, unreserved}
+use Rattle.mls_session.proofs.Common.{AddsOwner, AddsOwners, AreAtHome, plane_reserve, unreserved}
 use Rattle.mls_session.proofs.HomePlanes.{AreAtHome-push, differ_from_new}
 use Rattle.mls_session.proofs.Openings.{AddsOwners-plane, AreSpace, AreSpace-push, layout_in-blank}
 use Rattle.mls_session.proofs.design.space_planes.Goals as goal

@@ -1,5 +1,5 @@
 use Rattle.std.proofs.Common.{◌≡◌, ◌*◌, length, vec_capacity}
-use Rattle.mls_session.proofs.Words.{AddsOwners, AreAtHome, plane_reserve}
+use Rattle.mls_session.proofs.Common.{AddsOwners, AreAtHome, plane_reserve}
 use Rattle.mls_session.proofs.Openings.{AreSpace}
 use Rattle.mls_session.proofs.design.space_planes.Given as goal
 

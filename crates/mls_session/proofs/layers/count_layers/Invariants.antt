@@ -1,5 +1,5 @@
 use Rattle.std.proofs.Common.{◌≡◌, ◌≤◌, ◌*◌, length}
-use Rattle.mls_session.proofs.Words.{Layout, ListsPlanes}
+use Rattle.mls_session.proofs.Common.{Layout, ListsPlanes}
 use Rattle.mls_session.proofs.ListedLayers.{lines_before}
 use Rattle.mls_session.proofs.layers.count_layers.Given as goal
 

@@ -1,6 +1,6 @@
 -- Each turn lists one plane more.
 use Rattle.std.proofs.Common.{◌<◌, length, ap, ◌∙◌, arith}
-use Rattle.mls_session.specs.Words.{flat_layout, flat_plane, strips_of, tile_count, world}
+use Rattle.mls_session.specs.Common.{flat_layout, flat_plane, strips_of, tile_count, world}
 use Rattle.mls_session.proofs.FlatDesigns.{HasFlatPlane-lent, flat_plane-lent}
 use Rattle.mls_session.proofs.ListedLayers.{ListsPlanes-push, exceeds_tiles-at, exceeds_tiles-more, too_many-on}
 use Rattle.mls_session.proofs.layers.list_layers.Goals as goal

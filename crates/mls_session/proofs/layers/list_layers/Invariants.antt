@@ -1,6 +1,6 @@
 use Rattle.std.proofs.Common.{◌≡◌, false, length, map, vec_capacity}
 use Rattle.std.specs.List.{range_with_len}
-use Rattle.mls_session.proofs.Words.{exceeds_tiles, flat_layout, strips_on}
+use Rattle.mls_session.proofs.Common.{exceeds_tiles, flat_layout, strips_on}
 use Rattle.mls_session.proofs.layers.list_layers.Given as goal
 
 -- the first planes are listed, and none of them has too many tiles

@@ -1,5 +1,5 @@
 use Rattle.std.proofs.Common.{◌≡◌, ◌≤◌, ◌++◌}
-use Rattle.mls_session.proofs.Words.{Extends, Layout, ListsPlanes, text_of}
+use Rattle.mls_session.proofs.Common.{Extends, Layout, ListsPlanes, text_of}
 use Rattle.mls_session.proofs.ListedLayers.{lines_before}
 use Rattle.mls_session.proofs.layers.push_layers.Given as goal
 

@@ -1,6 +1,6 @@
 -- Each turn counts the tiles of one plane more.
 use Rattle.std.proofs.Common.{◌∷◌, ◌++◌, [], ℕ, List, sym, ap, ◌∙◌, arith}
-use Rattle.mls_session.proofs.Words.{layout_in, tile_count, tile_counts, world}
+use Rattle.mls_session.proofs.Common.{layout_in, tile_count, tile_counts, world}
 use Rattle.mls_paint.proofs.OwnerFrames.{layout_in-at}
 use Rattle.mls_session.proofs.FirstPlanes.{tile_counts-more}
 use Rattle.mls_session.proofs.look.tile_counts.Goals as goal

@@ -1,5 +1,5 @@
 use Rattle.std.proofs.Common.{◌≡◌, length, vec_capacity}
-use Rattle.mls_session.proofs.Words.{layout_in, tile_counts}
+use Rattle.mls_session.proofs.Common.{layout_in, tile_counts}
 use Rattle.mls_session.proofs.look.tile_counts.Given as goal
 
 -- the planes so far are counted

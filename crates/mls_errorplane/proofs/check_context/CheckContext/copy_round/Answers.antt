@@ -1,5 +1,5 @@
 use Rattle.std.proofs.Common.{ap, ◌∙◌}
-use Rattle.mls_errorplane.specs.Words.{Rect, common, copied_layout, flat_layout, grown, within, world}
+use Rattle.mls_errorplane.specs.Common.{Rect, common, copied_layout, flat_layout, grown, within, world}
 use Rattle.mls_errorplane.proofs.check_context.CheckContext.copy_round.Goals as goal
 
 pub returns-clause-copied : goal.returns-clause-copied

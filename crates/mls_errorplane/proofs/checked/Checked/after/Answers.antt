@@ -1,5 +1,5 @@
 use Rattle.std.proofs.Common.{Option, IfSome, subst}
-use Rattle.mls_errorplane.proofs.Words.{AreRightIn, Checked}
+use Rattle.mls_errorplane.proofs.Common.{AreRightIn, Checked}
 use Rattle.mls_errorplane.proofs.checked.Checked.after.Goals as goal
 
 pub returns-in-Some : goal.returns-in-Some

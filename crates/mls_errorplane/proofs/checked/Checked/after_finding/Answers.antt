@@ -1,6 +1,6 @@
 -- A finished finding is a check step, after which the marks are right in its piece, and stay so where they were.
 use Rattle.std.proofs.Common.{subst, sym}
-use Rattle.mls_errorplane.proofs.Words.{AreRight, Rect}
+use Rattle.mls_errorplane.proofs.Common.{AreRight, Rect}
 use Rattle.mls_errorplane.proofs.StretchSteps.{Finished-AreRightIn}
 use Rattle.mls_errorplane.proofs.checked.Checked.after_finding.Goals as goal
 

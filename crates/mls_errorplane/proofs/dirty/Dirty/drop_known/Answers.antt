@@ -1,5 +1,5 @@
 use Rattle.std.proofs.Common.{List, arith, refl, subst, sym}
-use Rattle.mls_errorplane.proofs.Words.{DropsAll, Rect}
+use Rattle.mls_errorplane.proofs.Common.{DropsAll, Rect}
 use Rattle.mls_errorplane.proofs.DroppedRows.{first_piece-DropsAll}
 use Rattle.mls_errorplane.proofs.dirty.Dirty.drop_known.Goals as goal
 

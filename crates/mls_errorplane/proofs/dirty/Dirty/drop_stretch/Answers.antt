@@ -1,5 +1,5 @@
 use Rattle.std.proofs.Common.{ap, subst, sym, ◌∙◌, arith}
-use Rattle.mls_errorplane.proofs.Words.{IsDirtyList, with_rest}
+use Rattle.mls_errorplane.proofs.Common.{IsDirtyList, with_rest}
 use Rattle.mls_errorplane.proofs.DroppedRows.{DropsAll-DropsIn}
 use Rattle.mls_errorplane.proofs.StretchSteps.{DropsIn-kept}
 use Rattle.mls_errorplane.proofs.dirty.Dirty.drop_stretch.Goals as goal

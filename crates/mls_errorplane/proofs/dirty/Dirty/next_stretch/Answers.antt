@@ -1,5 +1,5 @@
 use Rattle.std.proofs.Common.{List, subst}
-use Rattle.mls_errorplane.proofs.Words.{IsNext, Rect}
+use Rattle.mls_errorplane.proofs.Common.{IsNext, Rect}
 use Rattle.mls_errorplane.proofs.NextStretches.{next-first}
 use Rattle.mls_errorplane.proofs.dirty.Dirty.next_stretch.Goals as goal
 

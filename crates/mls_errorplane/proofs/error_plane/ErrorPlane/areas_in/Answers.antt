@@ -1,5 +1,5 @@
 use Rattle.std.proofs.Common.{◌∷◌, ◌++◌, ◌∙◌, [], List, Some, None, Vec, Global, ap, sym, take, append-nil}
-use Rattle.mls_errorplane.proofs.Words.{Rect, areas_in, clipped}
+use Rattle.mls_errorplane.proofs.Common.{Rect, areas_in, clipped}
 use Rattle.mls_errorplane.proofs.ErrorsIn.{filter_map-more}
 use Rattle.mls_errorplane.proofs.error_plane.ErrorPlane.areas_in.Goals as goal
 use Rattle.mls_errorplane.proofs.error_plane.ErrorPlane.areas_in.Goals.{in-Some+in_ok-push, in_default}

@@ -1,5 +1,5 @@
 use Rattle.std.proofs.Common.{◌≡◌, ◌+◌, ◌≤◌, ℕ, refl, sym, ap, subst, ◌∙◌, arith}
-use Rattle.mls_errorplane.proofs.Words.{AreFew, ErrorPlane, HasStrips, Picture, SquareSet, is_marked, likened, marked_count, marks_picture, picture_in, remarked, tile_count, world}
+use Rattle.mls_errorplane.proofs.Common.{AreFew, ErrorPlane, HasStrips, Picture, SquareSet, is_marked, likened, marked_count, marks_picture, picture_in, remarked, tile_count, world}
 use Rattle.mls_errorplane.proofs.CarriedCounts.{AreCarried-remarked, AreFew-carried}
 use Rattle.mls_errorplane.proofs.CarriedMarks.{carried-few, carried-recount, remarked-shows}
 use Rattle.mls_errorplane.proofs.PaintedPieces.{overlaid-part}

@@ -1,5 +1,5 @@
 use Rattle.std.proofs.Common.{◌≡◌, ℕ, ◌+◌, ◌*◌, ◌^◌, ◌≤◌, refl, sym, ap, subst, ◌∙◌, arith}
-use Rattle.mls_errorplane.proofs.Words.{AreRightIn, ChangesOnly, ErrorPlane, HasCaughtUp, HasStepped, IsDirtyList, Layout, StandsApart, Stepped, Steps, UnlessDone, area_of, checking_of, first_piece_of, flat_layout}
+use Rattle.mls_errorplane.proofs.Common.{AreRightIn, ChangesOnly, ErrorPlane, HasCaughtUp, HasStepped, IsDirtyList, Layout, StandsApart, Stepped, Steps, UnlessDone, area_of, checking_of, first_piece_of, flat_layout}
 use Rattle.mls_stitch.proofs.PoolChanges.{ChangesOnly-refl, ChangesOnly-trans}
 use Rattle.mls_errorplane.specs.declared.error_plane.Stepped.TheVariants.{Done, Full, Idle, Memory}
 use Rattle.mls_errorplane.proofs.AreaSizes.{area_of-le}

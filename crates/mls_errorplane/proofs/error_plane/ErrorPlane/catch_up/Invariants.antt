@@ -1,5 +1,5 @@
 use Rattle.std.proofs.Common.{◌≡◌, ◌+◌, ◌*◌, ◌^◌, ◌≤◌, IfSome}
-use Rattle.mls_errorplane.proofs.Words.{AreRightIn, ChangesOnly, IsDirtyList, ShowsMarks, Steps, area_of, checking_of, flat_layout}
+use Rattle.mls_errorplane.proofs.Common.{AreRightIn, ChangesOnly, IsDirtyList, ShowsMarks, Steps, area_of, checking_of, flat_layout}
 use Rattle.mls_errorplane.proofs.error_plane.ErrorPlane.catch_up.Given as goal
 
 -- all steps so far were done, in the layout as it was, and their number and the squares that still await checking aren't too many to count; the marks of the

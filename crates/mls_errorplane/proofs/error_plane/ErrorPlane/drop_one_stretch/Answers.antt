@@ -1,5 +1,5 @@
 use Rattle.std.proofs.Common.{◌≡◌, ℕ, false, List, refl, sym, ap, subst, ◌∙◌}
-use Rattle.mls_errorplane.proofs.Words.{AreRight, AreSound, DropsAll, DropsIn, DropsKnown, EdgeRule, ErrorPlane, IsDirtyList, Layout, Pool, Rect, SquareSet, Steps, Stretch, flat_layout, is_marked, picture_in}
+use Rattle.mls_errorplane.proofs.Common.{AreRight, AreSound, DropsAll, DropsIn, DropsKnown, EdgeRule, ErrorPlane, IsDirtyList, Layout, Pool, Rect, SquareSet, Steps, Stretch, flat_layout, is_marked, picture_in}
 use Rattle.mls_errorplane.proofs.CarriedCounts.{IfSome-leads}
 use Rattle.mls_errorplane.proofs.CheckedMarks.{checking_with}
 use Rattle.mls_errorplane.proofs.DroppedRows.{DropsAll-DropsIn}

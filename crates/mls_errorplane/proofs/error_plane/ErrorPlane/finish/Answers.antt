@@ -1,5 +1,5 @@
 use Rattle.std.proofs.Common.{◌≡◌, length, ap, subst}
-use Rattle.mls_errorplane.proofs.Words.{HasStepped, IsFresh, Pool, Stepped, checking_of, flat_layout, stepped_of}
+use Rattle.mls_errorplane.proofs.Common.{HasStepped, IsFresh, Pool, Stepped, checking_of, flat_layout, stepped_of}
 use Rattle.mls_errorplane.specs.declared.error_plane.Stepped.TheVariants.{Done, Full}
 use Rattle.mls_errorplane.proofs.CheckedMarks.{flat-AgreeOutside}
 use Rattle.mls_errorplane.proofs.FinishedFindings.{fresh-forbidden}

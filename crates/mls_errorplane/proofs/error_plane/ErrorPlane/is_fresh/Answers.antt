@@ -1,6 +1,6 @@
 use Rattle.std.proofs.Common.{length, sym, ap, subst, ◌∙◌}
 use Rattle.std.proofs.lemmas.Bool.{both_ways, false≢true}
-use Rattle.mls_errorplane.proofs.Words.{ErrorPlane, Snapshot, checking_of, first_piece_of, flat_layout}
+use Rattle.mls_errorplane.proofs.Common.{ErrorPlane, Snapshot, checking_of, first_piece_of, flat_layout}
 use Rattle.mls_errorplane.proofs.FinishedFindings.{IsShown, fresh-same, made-fresh}
 use Rattle.mls_errorplane.proofs.error_plane.ErrorPlane.is_fresh.Goals as goal
 

@@ -1,7 +1,7 @@
 -- Marks that the error plane shows already are right; those that it doesn't show are carried.
 use Rattle.std.proofs.Common.{◌≡◌, ℕ, true, inl, inr, refl, sym, ap, subst, ◌∙◌}
 use Rattle.std.proofs.lemmas.Bool.{cases_Bool}
-use Rattle.mls_errorplane.proofs.Words.{AreCarried, AreFew, AreRight, AreSound, ErrorPlane, Layout, Picture, Pool, Rect, ShowsAlike, SquareSet, Steps, flat_layout, is_marked, picture_in}
+use Rattle.mls_errorplane.proofs.Common.{AreCarried, AreFew, AreRight, AreSound, ErrorPlane, Layout, Picture, Pool, Rect, ShowsAlike, SquareSet, Steps, flat_layout, is_marked, picture_in}
 use Rattle.mls_layout.proofs.LentPlanes.{lent-same}
 use Rattle.mls_errorplane.proofs.CarriedMarks.{AreRight-carried, AreRightIn-kept, fits-after}
 use Rattle.mls_errorplane.proofs.CarriedSteps.{carried}

@@ -1,6 +1,6 @@
 use Rattle.std.proofs.Common.{◌≡◌, ◌+◌, ◌<◌, ℕ, IsErr, Result, Ok, Err, refl, sym, ap, subst, ◌∙◌}
 use Rattle.std.proofs.lemmas.Bool.{false≢true}
-use Rattle.mls_errorplane.proofs.Words.{ErrorPlane, HasStepped, HasStrips, Picture, Pool, Stepped, checking_of, dropped, is_marked, marked_count, marks, marks_picture, picture_in, remarked, stepped_of, tile_count, world}
+use Rattle.mls_errorplane.proofs.Common.{ErrorPlane, HasStepped, HasStrips, Picture, Pool, Stepped, checking_of, dropped, is_marked, marked_count, marks, marks_picture, picture_in, remarked, stepped_of, tile_count, world}
 use Rattle.mls_errorplane.specs.declared.error_plane.Stepped.TheVariants.{Full}
 use Rattle.mls_errorplane.proofs.CarriedMarks.{remarked-shows}
 use Rattle.mls_errorplane.proofs.CheckedMarks.{HasStepped-Done, HasStepped-Full, checked-marks_picture}

@@ -1,5 +1,5 @@
 use Rattle.std.proofs.Common.{List, ◌++◌, subst, ap, ◌∙◌, rules}
-use Rattle.mls_errorplane.proofs.Words.{AreCoveredStrips, ErrorPlane, Piece, is_marked, laid, marks_picture, picture_in, strips_of, world}
+use Rattle.mls_errorplane.proofs.Common.{AreCoveredStrips, ErrorPlane, Piece, is_marked, laid, marks_picture, picture_in, strips_of, world}
 use Rattle.mls_errorplane.specs.ErrorsIn.{squares_in}
 use Rattle.mls_errorplane.proofs.error_plane.ErrorPlane.marks_in.Goals as goal
 

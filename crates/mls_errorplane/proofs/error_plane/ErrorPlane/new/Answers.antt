@@ -1,5 +1,5 @@
 use Rattle.std.proofs.Common.{ap, sym, ◌∙◌}
-use Rattle.mls_errorplane.proofs.Words.{Picture, is_marked, marks_picture, picture_in}
+use Rattle.mls_errorplane.proofs.Common.{Picture, is_marked, marks_picture, picture_in}
 use Rattle.mls_errorplane.proofs.RectCounts.{marked_count-space}
 use Rattle.mls_errorplane.proofs.error_plane.ErrorPlane.new.Goals as goal
 

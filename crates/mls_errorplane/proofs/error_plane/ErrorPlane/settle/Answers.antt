@@ -1,6 +1,6 @@
 use Rattle.std.proofs.Common.{refl, sym, subst, ◌∙◌, arith}
 use Rattle.std.proofs.lemmas.Bool.Decides.{nat_tests}
-use Rattle.mls_errorplane.proofs.Words.{AreRight, AreRightIn, AreSound, ChangesOnly, Layout, Steps, Trial, checking_of, flat_layout}
+use Rattle.mls_errorplane.proofs.Common.{AreRight, AreRightIn, AreSound, ChangesOnly, Layout, Steps, Trial, checking_of, flat_layout}
 use Rattle.mls_stitch.proofs.PoolChanges.{ChangesOnly-refl, ChangesOnly-trans}
 use Rattle.mls_errorplane.proofs.AreaSizes.{area_of-le}
 use Rattle.mls_errorplane.proofs.StepsDone.{HasLayout-apart, flat_layout-apart}

@@ -1,5 +1,5 @@
 use Rattle.std.proofs.Common.{◌≡◌, ◌+◌, ◌*◌, ◌^◌, ◌≤◌, false}
-use Rattle.mls_errorplane.proofs.Words.{AreRightIn, ChangesOnly, ShowsMarks, Steps, area_of, checking_of, exceeds, flat_layout}
+use Rattle.mls_errorplane.proofs.Common.{AreRightIn, ChangesOnly, ShowsMarks, Steps, area_of, checking_of, exceeds, flat_layout}
 use Rattle.mls_errorplane.proofs.error_plane.ErrorPlane.settle.Given as goal
 
 -- the pieces so far are as many check steps, in the layout as it was, and the marks are right in the last of them

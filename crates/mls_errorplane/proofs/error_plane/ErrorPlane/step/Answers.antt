@@ -1,5 +1,5 @@
 use Rattle.std.proofs.Common.{◌≡◌, Some, sym, ap, subst, ◌∙◌}
-use Rattle.mls_errorplane.proofs.Words.{AreRight, ErrorPlane, HasStepped, Pool, Rect, Stepped, checking_of, first_piece_of, flat_layout, marks, stepped_of}
+use Rattle.mls_errorplane.proofs.Common.{AreRight, ErrorPlane, HasStepped, Pool, Rect, Stepped, checking_of, first_piece_of, flat_layout, marks, stepped_of}
 use Rattle.mls_errorplane.specs.declared.error_plane.Stepped.TheVariants.{Done, Full}
 use Rattle.mls_errorplane.proofs.error_plane.ErrorPlane.step.Goals as goal
 use Rattle.mls_errorplane.proofs.error_plane.ErrorPlane.step.Goals.{After-mark_first}

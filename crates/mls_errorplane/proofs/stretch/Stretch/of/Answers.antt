@@ -1,5 +1,5 @@
 use Rattle.std.proofs.Common.{◌∷◌, subst}
-use Rattle.mls_errorplane.proofs.Words.{IsNext, Rect}
+use Rattle.mls_errorplane.proofs.Common.{IsNext, Rect}
 use Rattle.mls_errorplane.proofs.stretch.Stretch.of.Goals as goal
 
 pub returns-then-lines-le-PIECE_SIDE : goal.returns-then-lines-le-PIECE_SIDE

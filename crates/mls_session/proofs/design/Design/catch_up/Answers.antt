@@ -1,5 +1,5 @@
 use Rattle.std.proofs.Common.{sym, ap, subst, ◌∙◌}
-use Rattle.mls_session.proofs.Words.{CatchUp, ChangesOnly, Counts, Design, DesignSteps, ErrorPlane, HasCaughtUp, checking_of, config_of, designed_of, drawn_of, layout_of}
+use Rattle.mls_session.proofs.Common.{CatchUp, ChangesOnly, Counts, Design, DesignSteps, ErrorPlane, HasCaughtUp, checking_of, config_of, designed_of, drawn_of, layout_of}
 use Rattle.mls_session.proofs.CommandSteps.{caught_up-errors}
 use Rattle.mls_session.proofs.ErrorPlanes.{KeepsPlanes-errors}
 use Rattle.mls_session.proofs.FlatDesigns.{flat_layout-design}

@@ -1,6 +1,6 @@
 -- No plane is changed unless each would fit.
 use Rattle.std.proofs.Common.{◌≡◌, length, refl, sym, ap, ◌∙◌, arith}
-use Rattle.mls_session.proofs.Words.{Design, FitsQuota, Pool, Quota, change_step, changed_layout, checking_of, config_of, designed_of, dirty_after, drawn_of, layout_in, planned_pieces}
+use Rattle.mls_session.proofs.Common.{Design, FitsQuota, Pool, Quota, change_step, changed_layout, checking_of, config_of, designed_of, dirty_after, drawn_of, layout_in, planned_pieces}
 use Rattle.mls_session.proofs.ChangedPlanes.{layout_in-changed}
 use Rattle.mls_session.proofs.ChangedQuotas.{FitsQuota-tested, change_step-Refused}
 use Rattle.mls_session.proofs.CommandSteps.{edit_step-Refused}

@@ -1,5 +1,5 @@
 use Rattle.std.proofs.Common.{◌≡◌, Some, sym, ap, ◌∙◌}
-use Rattle.mls_session.proofs.Words.{Design, check_in, checking_of, config_of, design_step, designed_of, dirty_after, drawn_of}
+use Rattle.mls_session.proofs.Common.{Design, check_in, checking_of, config_of, design_step, designed_of, dirty_after, drawn_of}
 use Rattle.mls_session.specs.declared.reply.Reply.TheVariants.{Done}
 use Rattle.mls_session.proofs.CommandSteps.{check_in-Some, edit_step-Done}
 use Rattle.mls_session.proofs.design.Design.check.Goals as goal

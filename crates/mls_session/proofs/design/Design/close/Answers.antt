@@ -2,7 +2,7 @@
 use Rattle.std.proofs.Common.{◌≡◌, ◌*◌, ℕ, List, [], ◌∷◌, ◌++◌, length, Some, IfSome, sym, ap, ◌∙◌, subst, append_assoc, arith, rules}
 use Rattle.std.specs.Vec.Iter.{into_iter_items}
 use Rattle.std.proofs.Math.Nat.{zero-mul}
-use Rattle.mls_session.proofs.Words.{Design, IsOwner, RemovesOwners, plane_reserve, room_of}
+use Rattle.mls_session.proofs.Common.{Design, IsOwner, RemovesOwners, plane_reserve, room_of}
 use Rattle.mls_paint.proofs.OwnerFrames.{RemovesOwners-none}
 use Rattle.mls_session.proofs.ClosedPlanes.{RemovesOwners-errors, RemovesOwners-plane, all_given_back, is_owner, room-errors, room-left}
 use Rattle.mls_session.proofs.design.Design.close.Goals as goal

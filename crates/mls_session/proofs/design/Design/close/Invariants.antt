@@ -1,6 +1,6 @@
 use Rattle.std.proofs.Common.{◌≡◌, ◌*◌, ◌++◌, length}
 use Rattle.std.specs.Vec.Iter.{into_iter_items, into_iter_len}
-use Rattle.mls_session.proofs.Words.{RemovesOwners, plane_reserve}
+use Rattle.mls_session.proofs.Common.{RemovesOwners, plane_reserve}
 use Rattle.mls_session.proofs.design.Design.close.Given as goal
 
 -- the planes so far are given back, and with those that are left they are all

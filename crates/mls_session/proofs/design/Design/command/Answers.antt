@@ -1,5 +1,5 @@
 use Rattle.std.proofs.Common.{inl, refl, rules, ◌∙◌}
-use Rattle.mls_session.proofs.Words.{config_of, design_step}
+use Rattle.mls_session.proofs.Common.{config_of, design_step}
 use Rattle.mls_session.proofs.MovedRects.{rect_of-fits}
 use Rattle.mls_session.proofs.design.Design.command.Goals as goal
 

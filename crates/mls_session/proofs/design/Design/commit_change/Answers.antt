@@ -1,6 +1,6 @@
 -- Each turn paints one plane more, by its plan.
 use Rattle.std.proofs.Common.{ℕ, List, length, ap, ◌∙◌, arith}
-use Rattle.mls_session.proofs.Words.{Design, layout_in, painted_over, planned_pieces}
+use Rattle.mls_session.proofs.Common.{Design, layout_in, painted_over, planned_pieces}
 use Rattle.mls_session.proofs.ChangedPlanes.{layout_in-IsMade}
 use Rattle.mls_session.proofs.HomePlanes.{planes_kept}
 use Rattle.mls_session.proofs.PlannedPlanes.{IsMade-IsTurn, IsPlanFor-IsTurn, IsTurn-lent, room-IsTurn}

@@ -1,5 +1,5 @@
 use Rattle.std.proofs.Common.{◌≡◌, ◌≤◌, vec_capacity}
-use Rattle.mls_session.proofs.Words.{layout_in, most_uses, painted_over, planned_pieces}
+use Rattle.mls_session.proofs.Common.{layout_in, most_uses, painted_over, planned_pieces}
 use Rattle.mls_session.proofs.ChangedPlanes.{IsMade}
 use Rattle.mls_session.proofs.design.Design.commit_change.Given as goal
 

@@ -1,5 +1,5 @@
 use Rattle.std.proofs.Common.{ℕ, ap, ◌∙◌, sym, length}
-use Rattle.mls_session.proofs.Words.{Design, Designed, Reply, designed_of, marked_count, total_marks}
+use Rattle.mls_session.proofs.Common.{Design, Designed, Reply, designed_of, marked_count, total_marks}
 use Rattle.mls_session.specs.declared.reply.Reply.TheVariants.{Count}
 use Rattle.mls_session.proofs.design.Design.count.Goals as goal
 

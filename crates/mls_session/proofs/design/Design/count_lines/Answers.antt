@@ -1,6 +1,6 @@
 -- Each turn adds the lines of one type's section.
 use Rattle.std.proofs.Common.{ℕ, refl, ◌∙◌, arith, subst}
-use Rattle.mls_session.proofs.Words.{IsSection, Pool, layout_in}
+use Rattle.mls_session.proofs.Common.{IsSection, Pool, layout_in}
 use Rattle.mls_session.proofs.SavedSections.{count-all, count-first, count-next}
 use Rattle.mls_session.proofs.design.Design.count_lines.Goals as goal
 

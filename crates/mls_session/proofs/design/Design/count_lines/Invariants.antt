@@ -1,5 +1,5 @@
 use Rattle.std.proofs.Common.{◌≡◌, ◌≤◌, ◌+◌, ◌*◌, length}
-use Rattle.mls_session.proofs.Words.{IsListing, layout_in}
+use Rattle.mls_session.proofs.Common.{IsListing, layout_in}
 use Rattle.mls_session.proofs.SavedSections.{lines_before}
 use Rattle.mls_session.proofs.design.Design.count_lines.Given as goal
 

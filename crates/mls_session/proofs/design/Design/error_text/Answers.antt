@@ -1,5 +1,5 @@
 use Rattle.std.proofs.Common.{◌≡◌, ◌++◌, ◌∙◌, List, ap, subst}
-use Rattle.mls_session.proofs.Words.{Design, ErrorPlane, Rect, areas_in, checking_of, empty_layout, marked_line_count, marked_text, marks_picture, squares_in}
+use Rattle.mls_session.proofs.Common.{Design, ErrorPlane, Rect, areas_in, checking_of, empty_layout, marked_line_count, marked_text, marks_picture, squares_in}
 use Rattle.mls_session.proofs.design.Design.error_text.Goals as goal
 
 pub returns-clause-count : goal.returns-clause-count

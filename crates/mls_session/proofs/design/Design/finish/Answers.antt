@@ -1,5 +1,5 @@
 use Rattle.std.proofs.Common.{length, ◌∙◌}
-use Rattle.mls_session.specs.Words.{HasFinished, checking_of}
+use Rattle.mls_session.specs.Common.{HasFinished, checking_of}
 use Rattle.mls_session.proofs.LentDesigns.{HasLayout-lent, KeepsDrawn-returned, said_of-lent}
 use Rattle.mls_session.proofs.design.Design.finish.Goals as goal
 

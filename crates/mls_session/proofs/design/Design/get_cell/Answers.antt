@@ -1,7 +1,7 @@
 -- The cell's planes are frozen, and there is room for its use.
 use Rattle.std.proofs.Common.{◌<◌, ◌++◌, ◌∷◌, [], Some, length, ap, ◌∙◌, arith}
 use Rattle.std.proofs.lemmas.Int.{to_z-of_z}
-use Rattle.mls_session.proofs.Words.{CellUse, checking_of, dirty_after, most_uses}
+use Rattle.mls_session.proofs.Common.{CellUse, checking_of, dirty_after, most_uses}
 use Rattle.mls_session.specs.Designs.{Design, designed_of, owners_of}
 use Rattle.mls_session.specs.declared.reply.Reply.TheVariants.{Done}
 use Rattle.mls_session.proofs.CellPlaces.{get-Done, get-TooManyUses, get-refused}

@@ -1,6 +1,6 @@
 -- The strips that are listed are those of the type's plane.
 use Rattle.std.proofs.Common.{length, ap, subst, ◌∙◌, IfSome}
-use Rattle.mls_session.proofs.Words.{IsSection, ListsPlane, Pool, layer_lines, layout_in}
+use Rattle.mls_session.proofs.Common.{IsSection, ListsPlane, Pool, layer_lines, layout_in}
 use Rattle.mls_session.proofs.SavedPlanes.{section-few, section_of}
 use Rattle.mls_session.proofs.design.Design.list_section.Goals as goal
 

@@ -1,5 +1,5 @@
 use Rattle.std.proofs.Common.{ap, ◌∙◌}
-use Rattle.mls_session.proofs.Words.{Design, checking_of, dirtied}
+use Rattle.mls_session.proofs.Common.{Design, checking_of, dirtied}
 use Rattle.mls_session.proofs.design.Design.mark_dirty.Goals as goal
 
 pub returns-in-Some-clause-checking : goal.returns-in-Some-clause-checking

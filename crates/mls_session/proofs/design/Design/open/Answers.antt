@@ -1,5 +1,5 @@
 use Rattle.std.proofs.Common.{◌≡◌, ◌+◌, ℕ, List, None, refl, ap, ◌∙◌, sym, subst, arith}
-use Rattle.mls_session.proofs.Words.{AddsOwner, CellUse, Checking, Design, Designed, HasRightMarks, Layout, Rect, blank, checking_of, config_of, designed_of, no_squares, opening, opening_checking, plane_reserve, unreserved}
+use Rattle.mls_session.proofs.Common.{AddsOwner, CellUse, Checking, Design, Designed, HasRightMarks, Layout, Rect, blank, checking_of, config_of, designed_of, no_squares, opening, opening_checking, plane_reserve, unreserved}
 use Rattle.mls_session.proofs.ErrorPlanes.{IsHome-added, differs, layout-added}
 use Rattle.mls_session.proofs.Openings.{AddsOwners-plane, HasRightMarks-opening}
 use Rattle.mls_session.proofs.design.Design.open.Goals as goal

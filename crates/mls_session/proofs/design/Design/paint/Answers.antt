@@ -1,7 +1,7 @@
 -- The plane's tiles show the box, and all else is at home as before.
 use Rattle.std.proofs.Common.{ℕ, ◌<◌, ◌∷◌, ◌++◌, List, [], Some, set, length, get_or, refl, ap, sym, ◌∙◌, arith}
 use Rattle.std.proofs.lemmas.Bool.{false≢true}
-use Rattle.mls_session.proofs.Words.{Design, Piece, Pool, Quota, checking_of, config_of, design_step, designed_of, dirty_after, drawn_of, overlaid, paint_step, picture_in, tile_count, world}
+use Rattle.mls_session.proofs.Common.{Design, Piece, Pool, Quota, checking_of, config_of, design_step, designed_of, dirty_after, drawn_of, overlaid, paint_step, picture_in, tile_count, world}
 use Rattle.mls_paint.proofs.OwnerFrames.{ChangesAmong-ChangesOnly}
 use Rattle.mls_session.specs.declared.reply.Reply.TheVariants.{Done, Refused}
 use Rattle.mls_session.proofs.CommandSteps.{edit_step-Refused}

@@ -2,7 +2,7 @@
 use Rattle.std.proofs.Common.{◌≡◌, ◌≢◌, ◌||◌, ◌<◌, ℕ, get_or, length, refl, sym, ap, subst, ◌∙◌, arith}
 use Rattle.std.proofs.lemmas.Bool.{false≢true}
 use Rattle.std.proofs.lemmas.List.{get_or_default}
-use Rattle.mls_session.proofs.Words.{ArePlanned, CanChange, Design, IsPlanFor, ListsChange, Pool, changed_layout, layout_in, no_plan, overlaid, picture_in, plan_of, planned_pieces}
+use Rattle.mls_session.proofs.Common.{ArePlanned, CanChange, Design, IsPlanFor, ListsChange, Pool, changed_layout, layout_in, no_plan, overlaid, picture_in, plan_of, planned_pieces}
 use Rattle.mls_session.proofs.ChangedQuotas.{exceeds, exceeds-fits, exceeds-more, exceeds_quota-more, exceeds_quota-none}
 use Rattle.mls_library.proofs.FirstPlanes.{any_more}
 use Rattle.mls_session.proofs.HomePlanes.{HasStrips-lent}

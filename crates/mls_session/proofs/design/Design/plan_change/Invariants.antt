@@ -1,6 +1,6 @@
 use Rattle.std.proofs.Common.{◌≡◌, false}
 use Rattle.std.specs.List.{list_any, range_with_len}
-use Rattle.mls_session.proofs.Words.{ArePlanned, ListsChange, changed_layout, layout_in, planned_pieces}
+use Rattle.mls_session.proofs.Common.{ArePlanned, ListsChange, changed_layout, layout_in, planned_pieces}
 use Rattle.mls_session.proofs.ChangedQuotas.{exceeds}
 use Rattle.mls_session.proofs.design.Design.plan_change.Given as goal
 

@@ -1,6 +1,6 @@
 -- Each turn appends the text of one type's section.
 use Rattle.std.proofs.Common.{◌≡◌, ℕ, ◌+◌, ◌-◌, ◌++◌, ◌<◌, length, vec_len, vec_capacity, refl, sym, ap, subst, ◌∙◌, arith}
-use Rattle.mls_session.proofs.Words.{IsSection, Pool, header_lines, layer_lines, layout_in, saved_text, strips_on, text_of}
+use Rattle.mls_session.proofs.Common.{IsSection, Pool, header_lines, layer_lines, layout_in, saved_text, strips_on, text_of}
 use Rattle.mls_library.proofs.SavedRooms.{end_fits, grown, front_fits}
 use Rattle.mls_library.proofs.SavedTexts.{Extends-appended, Extends-trans, lines_up_to, lines_up_to-none, on_err, text_up_to-all}
 use Rattle.mls_session.proofs.SavedSections.{count-all, count-first, count-next, lines_before, section_fits, text-next}

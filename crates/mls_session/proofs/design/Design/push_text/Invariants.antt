@@ -1,5 +1,5 @@
 use Rattle.std.proofs.Common.{◌≡◌, ◌≤◌, ◌+◌, ◌*◌, ◌++◌, length, vec_capacity}
-use Rattle.mls_session.proofs.Words.{IsListing, layout_in, text_of}
+use Rattle.mls_session.proofs.Common.{IsListing, layout_in, text_of}
 use Rattle.mls_session.proofs.SavedSections.{lines_before}
 use Rattle.mls_session.proofs.design.Design.push_text.Given as goal
 

@@ -1,5 +1,5 @@
 use Rattle.std.proofs.Common.{◌≢◌, All, IfSome, subst}
-use Rattle.mls_session.proofs.Words.{Design, IsRectangleIn, areas_in, empty_layout, world}
+use Rattle.mls_session.proofs.Common.{Design, IsRectangleIn, areas_in, empty_layout, world}
 use Rattle.mls_library.proofs.MarkedCells.{marked-reads-back}
 use Rattle.mls_library.proofs.SavedCells.{saved-reads-back}
 use Rattle.mls_errorplane.proofs.ErrorsIn.{areas_in-legal}

@@ -1,5 +1,5 @@
 use Rattle.std.proofs.Common.{◌∙◌}
-use Rattle.mls_session.specs.Words.{AreRightIn, Steps, checking_of, flat_layout}
+use Rattle.mls_session.specs.Common.{AreRightIn, Steps, checking_of, flat_layout}
 use Rattle.mls_session.proofs.LentDesigns.{HasLayout-lent, KeepsDrawn-returned, StandsApart-lent, said_of-lent}
 use Rattle.mls_session.proofs.design.Design.settle.Goals as goal
 

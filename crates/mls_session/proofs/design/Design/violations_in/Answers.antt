@@ -1,5 +1,5 @@
 use Rattle.std.proofs.Common.{ℕ, IfErr, IfOk, OnOk, ◌≡◌, ◌<◌, ◌≤◌, refl, subst, ◌∙◌}
-use Rattle.mls_session.specs.Words.{IfTooMany, flat_layout, strip_count, violations_in}
+use Rattle.mls_session.specs.Common.{IfTooMany, flat_layout, strip_count, violations_in}
 use Rattle.mls_session.proofs.LentDesigns.{HasLayout-lent, said_of-lent}
 use Rattle.mls_session.proofs.design.Design.violations_in.Goals as goal
 

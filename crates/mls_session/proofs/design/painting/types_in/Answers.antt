@@ -1,6 +1,6 @@
 -- Each turn adds the types of one plane more.
 use Rattle.std.proofs.Common.{◌≡◌, length, refl, sym, ap, ◌∙◌, arith}
-use Rattle.mls_session.proofs.Words.{Picture, flat_layout, kinds_in, types_in, union}
+use Rattle.mls_session.proofs.Common.{Picture, flat_layout, kinds_in, types_in, union}
 use Rattle.mls_session.proofs.BoxTypes.{types_none, types_more}
 use Rattle.mls_session.proofs.FlatDesigns.{HasFlatPlane-lent, flat_plane-lent}
 use Rattle.mls_session.proofs.design.painting.types_in.Goals as goal

@@ -1,5 +1,5 @@
 use Rattle.std.proofs.Common.{◌≡◌}
-use Rattle.mls_session.proofs.Words.{flat_layout, types_in}
+use Rattle.mls_session.proofs.Common.{flat_layout, types_in}
 use Rattle.mls_session.proofs.design.painting.types_in.Given as goal
 
 -- the types on the first planes

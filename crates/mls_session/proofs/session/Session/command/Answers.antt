@@ -1,6 +1,6 @@
 use Rattle.std.proofs.Common.{inl, length, eqb-true, ap, sym, subst, ◌∙◌}
 use Rattle.std.proofs.lemmas.Bool.{eqb-false}
-use Rattle.mls_session.proofs.Words.{ChangesAmong, Design, HasRightMarks, IsCounted, IsDirtyList, Journal, config_of, designed_of, terms_of}
+use Rattle.mls_session.proofs.Common.{ChangesAmong, Design, HasRightMarks, IsCounted, IsDirtyList, Journal, config_of, designed_of, terms_of}
 use Rattle.mls_session.specs.Sessions.{KeepsPlanes, Session, kept_of, owners_of}
 use Rattle.mls_session.proofs.CellFrames.{home-ChangesAmong, layouts-ChangesAmong}
 use Rattle.mls_session.proofs.CountedCommands.{Counts-fits, IsCounted-executed}

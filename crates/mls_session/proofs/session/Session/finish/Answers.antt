@@ -1,5 +1,5 @@
 use Rattle.std.proofs.Common.{◌≡◌, IfSome, length, ap, ◌∙◌, subst, sym}
-use Rattle.mls_session.proofs.Words.{AreRightIn, Drawn, IsCounted, Journal, KnowsRight, after_steps, checking_of, config_of, designed_of, drawn_of, finished_steps, layout_of, terms_of}
+use Rattle.mls_session.proofs.Common.{AreRightIn, Drawn, IsCounted, Journal, KnowsRight, after_steps, checking_of, config_of, designed_of, drawn_of, finished_steps, layout_of, terms_of}
 use Rattle.mls_session.specs.Sessions.{KeepsPlanes, Session, kept_of}
 use Rattle.mls_session.proofs.CountedSteps.{IsCounted-finished}
 use Rattle.mls_session.proofs.JournalledCommands.{seen}

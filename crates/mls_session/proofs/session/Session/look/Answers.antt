@@ -1,5 +1,5 @@
 use Rattle.std.proofs.Common.{[], sym, ◌∙◌, rules, append-nil}
-use Rattle.mls_session.proofs.Words.{kept_of, terms_of}
+use Rattle.mls_session.proofs.Common.{kept_of, terms_of}
 use Rattle.mls_session.proofs.MovedRects.{rect_of-fits}
 use Rattle.mls_session.proofs.SessionLooks.{Looks-errors, Looks-violations, Looks-why}
 use Rattle.mls_session.proofs.session.Session.look.Goals as goal

@@ -1,5 +1,5 @@
 use Rattle.std.proofs.Common.{Ok, subst}
-use Rattle.mls_session.proofs.Words.{Errors, Session, state_of}
+use Rattle.mls_session.proofs.Common.{Errors, Session, state_of}
 use Rattle.mls_session.proofs.JournalledCommands.{seen}
 use Rattle.mls_session.proofs.SessionLooks.{ErrorsMore, ErrorsMore-text}
 use Rattle.mls_session.proofs.session.Session.look_at_errors.Goals as goal

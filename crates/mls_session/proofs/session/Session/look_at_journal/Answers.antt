@@ -1,5 +1,5 @@
 use Rattle.std.proofs.Common.{ap, ◌∙◌, List, ℕ}
-use Rattle.mls_session.proofs.Words.{Entry, JournalCopy, Session, kept_of}
+use Rattle.mls_session.proofs.Common.{Entry, JournalCopy, Session, kept_of}
 use Rattle.mls_session.specs.declared.session.Session.TheInside.{Inside}
 use Rattle.mls_session.proofs.SessionLooks.{Looks-journal}
 use Rattle.mls_session.proofs.session.Session.look_at_journal.Goals as goal

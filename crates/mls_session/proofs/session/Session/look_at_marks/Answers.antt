@@ -1,5 +1,5 @@
 use Rattle.std.proofs.Common.{refl, subst}
-use Rattle.mls_session.proofs.Words.{HoldsOwnTypes, IsLegal, IsReady, Marks, MarksReadBack, Quota, Session, drawn_of, kept_of, layout_of, terms_of}
+use Rattle.mls_session.proofs.Common.{HoldsOwnTypes, IsLegal, IsReady, Marks, MarksReadBack, Quota, Session, drawn_of, kept_of, layout_of, terms_of}
 use Rattle.mls_session.specs.declared.look.Looked.TheVariants.{Marked, Refused}
 use Rattle.mls_session.proofs.JournalledCommands.{seen}
 use Rattle.mls_session.proofs.OwnTypes.{holds_layout, legal_own, own_cells}

@@ -1,5 +1,5 @@
 use Rattle.std.proofs.Common.{rules}
-use Rattle.mls_session.proofs.Words.{kept_of, terms_of}
+use Rattle.mls_session.proofs.Common.{kept_of, terms_of}
 use Rattle.mls_session.proofs.SessionLooks.{Looks-status}
 use Rattle.mls_session.proofs.session.Session.look_at_status.Goals as goal
 

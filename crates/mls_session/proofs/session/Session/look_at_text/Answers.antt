@@ -1,5 +1,5 @@
 use Rattle.std.proofs.Common.{subst}
-use Rattle.mls_session.proofs.Words.{Session, kept_of, terms_of}
+use Rattle.mls_session.proofs.Common.{Session, kept_of, terms_of}
 use Rattle.mls_session.specs.declared.look.Look.TheVariants.{Save}
 use Rattle.mls_session.specs.declared.look.Looked.TheVariants.{Saved}
 use Rattle.mls_session.proofs.JournalledCommands.{seen}

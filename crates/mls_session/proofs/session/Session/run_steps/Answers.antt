@@ -1,5 +1,5 @@
 use Rattle.std.proofs.Common.{◌<◌, arith, subst}
-use Rattle.mls_session.proofs.Words.{ChecksOnce, HasRightMarks, StepsOnce, Terms, kept_of, state_of, terms_of}
+use Rattle.mls_session.proofs.Common.{ChecksOnce, HasRightMarks, StepsOnce, Terms, kept_of, state_of, terms_of}
 use Rattle.mls_session.proofs.KeptPlanes.{IsReady-kept, KeepsPlanes-refl, KeepsPlanes-trans, terms_of-kept}
 use Rattle.mls_session.proofs.StepRuns.{ChecksTimes-last, ChecksTimes-legal, ChecksTimes-none, StepsUpTo-ended}
 use Rattle.mls_session.proofs.session.Session.run_steps.Goals as goal

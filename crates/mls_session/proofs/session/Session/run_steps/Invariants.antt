@@ -1,4 +1,4 @@
-use Rattle.mls_session.proofs.Words.{ChecksTimes, HasRightMarks, config_of, terms_of}
+use Rattle.mls_session.proofs.Common.{ChecksTimes, HasRightMarks, config_of, terms_of}
 use Rattle.mls_session.specs.Sessions.{KeepsPlanes, kept_of, state_of}
 use Rattle.mls_session.proofs.session.Session.run_steps.Given as goal
 

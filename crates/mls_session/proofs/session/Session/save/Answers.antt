@@ -1,6 +1,6 @@
 use Rattle.std.proofs.Common.{length, sym, subst, eqb-true}
 use Rattle.std.proofs.lemmas.Bool.{eqb-false}
-use Rattle.mls_session.proofs.Words.{HaveOwnCells, HoldsOwnTypes, IsLegal, ReadsAs, Reply, SavesText, layout_in, saved_text, terms_of}
+use Rattle.mls_session.proofs.Common.{HaveOwnCells, HoldsOwnTypes, IsLegal, ReadsAs, Reply, SavesText, layout_in, saved_text, terms_of}
 use Rattle.mls_session.specs.Sessions.{IsHome, Session, kept_of, state_of}
 use Rattle.mls_session.proofs.JournalledCommands.{entries-full, seen}
 use Rattle.mls_session.proofs.JournalledSaves.{Saves-full, Saves-saved}

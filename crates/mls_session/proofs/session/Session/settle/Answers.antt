@@ -1,5 +1,5 @@
 use Rattle.std.proofs.Common.{◌+◌, ap, subst, sym}
-use Rattle.mls_session.proofs.Words.{IsCounted, Journal, KnowsRight, checking_of, config_of, designed_of, drawn_of, layout_of, terms_of}
+use Rattle.mls_session.proofs.Common.{IsCounted, Journal, KnowsRight, checking_of, config_of, designed_of, drawn_of, layout_of, terms_of}
 use Rattle.mls_session.specs.Sessions.{KeepsPlanes, Session, kept_of}
 use Rattle.mls_session.proofs.CountedSteps.{IsCounted-Steps, fits_of}
 use Rattle.mls_session.proofs.JournalledCommands.{seen}

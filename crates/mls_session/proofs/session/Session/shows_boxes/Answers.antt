@@ -1,6 +1,6 @@
 use Rattle.std.proofs.Common.{subst}
 use Rattle.mls_errorplane.proofs.GatheredMarks.{violations_are_marks}
-use Rattle.mls_session.proofs.Words.{ErrorsReadBack, Session, config_of, kept_of, layout_of, terms_of}
+use Rattle.mls_session.proofs.Common.{ErrorsReadBack, Session, config_of, kept_of, layout_of, terms_of}
 use Rattle.mls_session.proofs.session.Session.shows_boxes.Goals as goal
 
 pub returns-clause-errors_read_back : goal.returns-clause-errors_read_back

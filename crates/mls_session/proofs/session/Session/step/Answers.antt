@@ -1,5 +1,5 @@
 use Rattle.std.proofs.Common.{◌≡◌, ap, ◌∙◌, subst, sym}
-use Rattle.mls_session.proofs.Words.{IsCounted, Journal, after_steps, checking_of, config_of, done_steps, drawn_of, layout_of, terms_of}
+use Rattle.mls_session.proofs.Common.{IsCounted, Journal, after_steps, checking_of, config_of, done_steps, drawn_of, layout_of, terms_of}
 use Rattle.mls_session.specs.Sessions.{KeepsPlanes, Session, kept_of}
 use Rattle.mls_session.proofs.CountedSteps.{IsCounted-stepped}
 use Rattle.mls_session.proofs.JournalledCommands.{seen}

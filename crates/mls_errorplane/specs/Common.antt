@@ -1,4 +1,4 @@
--- The words of the crates below in which contracts and proofs of this one are said.
+-- The definitions of the crates below that contracts and proofs of this one cite, passed on from one place. Declares nothing.
 pub use Rattle.mls_checker.specs.Copies.{Snapshot, copied_layout}
 pub use Rattle.mls_checker.specs.Findings.{Finding, IsExact, forbids_in, is_violated_in}
 unfoldable pub use Rattle.mls_checker.specs.Findings.{violated_rules}

@@ -1,4 +1,4 @@
--- The words of this crate and of those below that its proofs cite, passed on from one place. Declares nothing.
+-- The definitions of this crate and of those below that its proofs cite, passed on from one place. Declares nothing.
 pub use Rattle.mls_errorplane.specs.DirtyLists.{dropped}
 pub use Rattle.mls_errorplane.specs.declared.error_plane.Outcome.TheVariants.{Finished}
 pub use Rattle.mls_geom.specs.declared.rect.RectFault.TheVariants.{Empty, Outside}
@@ -20,8 +20,8 @@ pub use Rattle.mls_session.specs.Quotas.{IsQuota, most_quota, plane_reserve}
 pub use Rattle.mls_session.specs.Saving.{OnSaved, SavesText}
 pub use Rattle.mls_session.specs.Sessions.{IsReady, Session, kept_of, state_of}
 pub use Rattle.mls_session.specs.Setups.{config_of, terms_of}
-pub use Rattle.mls_session.specs.Words.{AddsOwner, AddsOwners, AgreeOutside, AreInArea, AreRightIn, AreSearched, AreStrips, CaughtUp, CellUse, ChangesAmong, ChangesOnly, CheckContext, Checked, Checking, EdgeRule, ErrorPlane, Extends, Finding, FitsWorkspace, HasCaughtUp, HasFinished, HasFlatPlane, HasLayout, HasPlane, HasPlanes, HasStepped, HasStrips, HoldsOwnTypes, IfTooMany, IsChecked, IsDirtyList, IsFound, IsOwner, IsPlanFor, IsPlane, IsRectangleIn, LaidTile, Layout, Library, ListTouched, NamedCell, Outcome, Picture, Piece, Plan, Pool, ReadsAs, Rect, RectFault, RemovesOwners, Scratch, ShowOwnTypes, ShowsMarks, ShowsOwnTypes, StandsApart, Stepped, Steps, Tech, Tile, UnlessDone, UnlessFinished, Unlisted, Uses, area_of, areas_in, block_at, cell_layout, cell_layouts, cell_shown, check_step, checking_of, clipped, columns, common, dirtied, empty_layout, empty_picture, exceeds, flat_layout, flat_plane, has_paint, header_lines, holds, is_marked, kind_or_space, layer_lines, layout_in, marked_line_count, marked_text, marks_picture, most_tiles, most_uses, no_plan, no_squares, nothing_read, opening_checking, origin, over, overlaid, painted, painted_bounds, picture_at, picture_in, plan_of, plane_of_type, room_of, rows, saved_line_count, saved_text, shown, shows, squares_in, strips_on, unreserved, use_layout, uses_layout, world}
-unfoldable pub use Rattle.mls_session.specs.Words.{coordinate_of, flattened, is_outside, kinds_in, layers_lines, marked_count, moved_picture, rect_of, set_of, text_of, tile_count, tiles_of, union}
+pub use Rattle.mls_session.specs.Common.{AddsOwner, AddsOwners, AgreeOutside, AreInArea, AreRightIn, AreSearched, AreStrips, CaughtUp, CellUse, ChangesAmong, ChangesOnly, CheckContext, Checked, Checking, EdgeRule, ErrorPlane, Extends, Finding, FitsWorkspace, HasCaughtUp, HasFinished, HasFlatPlane, HasLayout, HasPlane, HasPlanes, HasStepped, HasStrips, HoldsOwnTypes, IfTooMany, IsChecked, IsDirtyList, IsFound, IsOwner, IsPlanFor, IsPlane, IsRectangleIn, LaidTile, Layout, Library, ListTouched, NamedCell, Outcome, Picture, Piece, Plan, Pool, ReadsAs, Rect, RectFault, RemovesOwners, Scratch, ShowOwnTypes, ShowsMarks, ShowsOwnTypes, StandsApart, Stepped, Steps, Tech, Tile, UnlessDone, UnlessFinished, Unlisted, Uses, area_of, areas_in, block_at, cell_layout, cell_layouts, cell_shown, check_step, checking_of, clipped, columns, common, dirtied, empty_layout, empty_picture, exceeds, flat_layout, flat_plane, has_paint, header_lines, holds, is_marked, kind_or_space, layer_lines, layout_in, marked_line_count, marked_text, marks_picture, most_tiles, most_uses, no_plan, no_squares, nothing_read, opening_checking, origin, over, overlaid, painted, painted_bounds, picture_at, picture_in, plan_of, plane_of_type, room_of, rows, saved_line_count, saved_text, shown, shows, squares_in, strips_on, unreserved, use_layout, uses_layout, world}
+unfoldable pub use Rattle.mls_session.specs.Common.{coordinate_of, flattened, is_outside, kinds_in, layers_lines, marked_count, moved_picture, rect_of, set_of, text_of, tile_count, tiles_of, union}
 pub use Rattle.mls_session.specs.declared.change.Change.{Change}
 pub use Rattle.mls_session.specs.declared.command.Command.{Command}
 pub use Rattle.mls_session.specs.declared.command.Command.TheVariants.{Box, CatchUp}

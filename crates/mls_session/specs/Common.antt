@@ -1,4 +1,4 @@
--- The words of the crates below in which contracts and proofs of this one are said.
+-- The definitions of the crates below that contracts and proofs of this one cite, passed on from one place. Declares nothing.
 pub use Rattle.mls_checker.specs.Findings.{Finding}
 unfoldable pub use Rattle.mls_checker.specs.Findings.{violated_rules}
 pub use Rattle.mls_checker.specs.Marking.{SquareSet, no_squares}
