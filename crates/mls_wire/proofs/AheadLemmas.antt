@@ -1,7 +1,6 @@
 -- Scripts that are read line by line, and what their lines say.
-use Rattle.std.proofs.Common.{◌≡◌, ℕ, Option, Some, None, Result, List, [], ◌∷◌, ◌++◌, map, refl, sym, ap, ◌∙◌, append_assoc, append-nil}
+use Rattle.std.proofs.Common.{◌≡◌, ℕ, Option, Some, None, Result, List, [], ◌∷◌, ◌++◌, map, sym, ap, ◌∙◌, append_assoc}
 use Rattle.std.specs.Prelude.{⊤}
-use Rattle.std.specs.Io.KnownBytes.{prepend_known}
 use Rattle.mls_text.proofs.LineLemmas.{lines_of-fed, lines_of-last}
 use Rattle.mls_wire.specs.Ahead.{SaysScript, ahead_says}
 use Rattle.mls_wire.specs.Lines.{line_if_short, script_of}
@@ -9,7 +8,7 @@ use Rattle.mls_wire.specs.NameBooks.{Names}
 use Rattle.mls_wire.specs.NextLines.{TakesKnownLine}
 use Rattle.mls_wire.specs.declared.line.Line.{Line as Said}
 use Rattle.mls_wire.specs.declared.line.LineFault.{LineFault}
-use Rattle.mls_wire.specs.declared.reader.NextLine.TheVariants.{End, Line, LastLine}
+use Rattle.mls_wire.specs.declared.reader.NextLine.TheVariants.{Line, LastLine}
 
 -- what was said so far, and what is ahead, are the whole script
 abbrev pub SaidSoFar : Names → Option (List ℕ) → Option (List ℕ) → List (Result Said LineFault) → Type 0
@@ -18,10 +17,6 @@ SaidSoFar book (Some script) None said = ⊥
 SaidSoFar book (Some script) (Some ahead) said = map (ahead_says book) (script_of script) ≡ said ++ map (ahead_says book) (script_of ahead)
 
 module _ (book : Names) where
-  pub said_none : (script : Option (List ℕ)) → SaidSoFar book script (prepend_known [] script) []
-  said_none None = tt
-  said_none (Some script) = refl
-
   pub said_next :
       (script old new : Option (List ℕ)) (said : List (Result Said LineFault)) (kept : List ℕ) → SaidSoFar book script old said → TakesKnownLine old new Line kept
       → SaidSoFar book script new (said ++ ahead_says book (line_if_short kept) ∷ [])
@@ -42,12 +37,3 @@ module _ (book : Names) where
   said_last (Some script) (Some old) (Some new) said kept so (unbroken, some, none, same) =
       let lines : script_of old ≡ line_if_short kept ∷ [] = ap (map line_if_short) (lines_of-last old unbroken some) ∙ ap (λ l. l ∷ []) (sym same) in
       sym (so ∙ ap (λ l. said ++ map (ahead_says book) l) lines)
-
-  pub said_all :
-      (script old new : Option (List ℕ)) (said : List (Result Said LineFault)) (kept : List ℕ) → SaidSoFar book script old said → TakesKnownLine old new End kept
-      → SaysScript book script said
-  said_all None old new said kept so takes = tt
-  said_all (Some script) None new said kept so takes = absurd so
-  said_all (Some script) (Some old) None said kept so takes = absurd takes
-  said_all (Some script) (Some old) (Some new) said kept so (none, rest) =
-      sym (so ∙ ap (λ l. said ++ map (ahead_says book) (script_of l)) none ∙ append-nil said)

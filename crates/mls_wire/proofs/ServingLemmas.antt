@@ -1,9 +1,9 @@
 -- Serving a script line by line.
 use Rattle.std.proofs.Common.{◌≡◌, ◌≢◌, ℕ, ◌+◌, ◌<◌, ◌≤◌, Option, Some, None, List, [], ◌∷◌, ◌++◌, Result, OnOk, IfErr, All, length, map, refl, sym, ap, subst, ◌∙◌, arith, append_assoc, append-nil}
-use Rattle.std.proofs.KnownBytes.{Appends-nil, Appends-kept, Appends-trans}
+use Rattle.std.proofs.KnownBytes.{Appends-nil, Appends-trans}
 use Rattle.std.proofs.lemmas.List.{length-append, map-append}
 use Rattle.std.proofs.lemmas.List.Elements.{All-append, All-cons, All-nil}
-use Rattle.std.specs.Io.KnownBytes.{Appends, Keeps, prepend_known}
+use Rattle.std.specs.Io.KnownBytes.{Appends, prepend_known}
 use Rattle.std.specs.Result.{IsErr, IsErrAnd}
 use Rattle.mls_text.proofs.LineLemmas.{lines_of-last}
 use Rattle.mls_text.specs.Lines.{IsUnbroken, lines_of}
@@ -21,10 +21,6 @@ use Rattle.mls_wire.specs.declared.serving.ServeFault.TheVariants.{Read, Write, 
 use Rattle.mls_wire.proofs.Results.{if_err, if_err-map, on_ok-map}
 use Rattle.mls_wire.proofs.RunLemmas.{RunsLines-alone, RunsLines-snoc}
 use Rattle.mls_wire.proofs.ScriptTexts.{fed, fed-snoc, lines_of-whole, whole_lines_of-begun}
-
--- bytes that were all written before the device failed
-pub AppendsFront-all : (a b c : Option (List ℕ)) (bytes : List ℕ) → Appends a b bytes → Keeps b c → AppendsFront a c bytes
-AppendsFront-all a b c bytes h k = (bytes, [], sym (append-nil bytes), Appends-kept a b c bytes h k)
 
 -- ---- one line
 
@@ -122,11 +118,6 @@ module _ (old session : World) (n : ℕ) (lines : List (Option (List ℕ))) (out
           alone = RunsLines-alone old new 1 (lines ++ line ∷ []) (out ++ (front ++ missing)) ran.events ran.answers run.ids ran.runs;
           written = refl;
         }
-
-pub served_first : (old : World) (script written : Option (List ℕ)) → IsNumbered old → Serves old script written 1 script written old
-served_first old None written ids = ([], ([], run_first old ids), Appends-nil written)
-served_first old (Some script) written ids =
-    ([], record { lines = []; split = refl; unbroken = All-nil IsUnbroken; run = run_first old ids }, Appends-nil written)
 
 -- a line was taken whose text ends the part of the script that was taken
 record HasTaken (script left : List ℕ) (before : List (List ℕ)) (line : Option (List ℕ)) : Type 0 where

@@ -18,9 +18,6 @@ width [] = 0
 width (word ∷ words) = suc (length word + width words)
 
 -- ---- words and fields
-width-onto : (b : ℕ) (words : List (List ℕ)) → width (onto_first b words) ≤ suc (suc (width words))
-width-onto b [] = omega arith
-width-onto b (first ∷ others) = omega arith
 
 width-onto_some : (b first : ℕ) (bytes : List ℕ) → is_blank first ≡ false → width (onto_first b (words_of (first ∷ bytes))) ≡ suc (width (words_of (first ∷ bytes)))
 width-onto_some b first bytes solid =

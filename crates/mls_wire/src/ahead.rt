@@ -73,17 +73,9 @@ fn push_said<N: Names>(
 fn parse_ahead<N: Names>(names: &N, line: ScriptLine<'_>) -> Result<Line, LineFault>
     ensures { result ≡ ahead_says (N.book names.now) (bytes_of_line line.entry) }
 {
-    match line {
-        ScriptLine::TooLong => Err(LineFault::UnknownCommand),
-        ScriptLine::Text(bytes) => parse_text(names, bytes),
-    }
-}
-
-/// Returns what the bytes of a line say before any session is open, or their first fault.
-#[tactic(auto, unfolding(crate::specs::Ahead::ahead_says))]
-fn parse_text<N: Names>(names: &N, bytes: &[u8]) -> Result<Line, LineFault>
-    ensures { result ≡ ahead_says (N.book names.now) (Some bytes.now) }
-{
+    let ScriptLine::Text(bytes) = line else {
+        return Err(LineFault::UnknownCommand);
+    };
     if begins_stepwise(Words::new(bytes)) {
         return Err(LineFault::UnknownCommand);
     }

@@ -23,7 +23,7 @@ pub use mls_server::{
     Answer, Capacity, CellFault, CellId, CellTiles, Command, JournalLimit, Limits, Look, Name,
     OpenFault, Quota, Server, SessionId,
 };
-pub use names::{Names, Sessions, server_reads_back};
+pub use names::{Names, Sessions};
 pub use parse::parse_line;
 pub use reader::{LineReader, NextLine};
 pub use reply::{push_differs, push_looked, push_response, push_saved};

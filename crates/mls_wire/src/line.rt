@@ -1,6 +1,5 @@
 //! The meaning of a line of a script.
 use mls_server::{Command, Look, Name, SessionId};
-use std::fmt;
 use thiserror::Error;
 
 /// What a line says. A session that must be open has its id beside its name.
@@ -26,6 +25,7 @@ pub enum Line {
 
 /// Why a line can't be read.
 #[derive(Clone, Copy, Debug, PartialEq, Eq, Error)]
+#[error("{}", self.numbered().1)]
 pub enum LineFault {
     /// There is no such command, its number of words is wrong, or the line is too long.
     UnknownCommand,
@@ -51,11 +51,5 @@ impl LineFault {
             LineFault::BadName => (3, "name"),
             LineFault::NotOpen => (4, "not open"),
         }
-    }
-}
-
-impl fmt::Display for LineFault {
-    fn fmt<W: fmt::Write>(&self, f: &mut fmt::Formatter<W>) -> fmt::Result {
-        f.write_str(self.numbered().1)
     }
 }

@@ -2,7 +2,6 @@
 ghost use Rattle.std.specs.Prelude.{◌≡◌, ◌<◌, IfSome};
 ghost use Rattle.std.specs.Option.{option_map};
 ghost use Rattle.mls_server.specs.Servers.{world_of};
-ghost use Rattle.mls_wire.specs.ReadBack.{JournalsReadBack};
 ghost use Rattle.mls_wire.specs.NameBooks.{book_of};
 
 use mls_kinds::Kind;
@@ -93,13 +92,4 @@ impl Sessions for Server {
     fn session(&self, name: &Name) -> Option<SessionId> {
         Server::session(self, name)
     }
-}
-
-/// For every command that some line of at most 1,023 bytes says, the line that is written for it in a journal says the
-/// same, and a line of check steps does as many, whatever sessions are open. Does nothing: the contract is the law.
-pub fn server_reads_back(server: &Server)
-    ensures { JournalsReadBack (world_of server.now).setting }
-{
-    // For its contract alone.
-    server.tech().types();
 }

@@ -1,8 +1,7 @@
 //! From a line to what it says.
-ghost use Rattle.std.specs.Prelude.{◌≡◌, if◌then◌else◌};
+ghost use Rattle.std.specs.Prelude.{◌≡◌};
 ghost use Rattle.mls_text.specs.Fields.{fields_of};
-ghost use Rattle.mls_text.specs.Words.{begins_with};
-ghost use Rattle.mls_wire.specs.Says.{alone_says, asked_by, asked_in, asked_line, asking_says, box_says, command_of, count_says, drc_says, dump_says, edit_of, erase_says, getcell_says, line_says, look_within, moved_cell_says, open_says, paint_says, session_says, sides_say, steps_say, types_named, within_says, words_say};
+ghost use Rattle.mls_wire.specs.Says.{alone_says, asked_by, asked_in, asked_line, asking_says, box_says, command_of, drc_says, dump_says, erase_says, getcell_says, line_says, look_within, moved_cell_says, open_says, sides_say, steps_say, types_named, words_say};
 ghost use Rattle.mls_wire.specs.ScriptLines.{bytes_of_line};
 
 use crate::number::{count_written, number_of};
@@ -125,7 +124,7 @@ pub fn parse_line<N: Names, S: Sessions>(
 }
 
 /// Returns what the words of a line say.
-#[tactic(auto, unfolding(crate::specs::Says::words_say))]
+#[tactic(auto, unfolding(crate::specs::Says::words_say, crate::specs::Says::session_says))]
 fn parse_words<N: Names, S: Sessions>(
     names: &N,
     sessions: &S,
@@ -133,25 +132,12 @@ fn parse_words<N: Names, S: Sessions>(
 ) -> Result<Line, LineFault>
     ensures { result ≡ words_say (N.book names.now) (S.ids sessions.now) words.entry }
 {
-    match words.next() {
-        None => Ok(Line::Silent),
-        Some(b"%open") => parse_open(words),
-        Some(word) => parse_named(names, sessions, word, words),
+    let Some(first) = words.next() else {
+        return Ok(Line::Silent);
+    };
+    if first == b"%open".as_slice() {
+        return parse_open(words);
     }
-}
-
-/// Returns what the words after the first say, where that asks something of an open session, or is its name.
-#[tactic(auto, unfolding(crate::specs::Says::session_says))]
-fn parse_named<N: Names, S: Sessions>(
-    names: &N,
-    sessions: &S,
-    first: &[u8],
-    words: Words,
-) -> Result<Line, LineFault>
-    ensures { result ≡ (if begins_with 37 first.now
-        then asking_says (S.ids sessions.now) (asked_by first.now) words.entry
-        else session_says (N.book names.now) (S.ids sessions.now) first.now words.entry) }
-{
     if let [b'%', ..] = first {
         return parse_asking(sessions, first, words);
     }
@@ -213,7 +199,10 @@ fn parse_asked(asking: Asking, words: Words) -> Result<Asked, LineFault>
 {
     match asking {
         Asking::Alone(asked) => parse_end(asked, words),
-        Asking::Within(within) => parse_within(within, words),
+        Asking::Within(within) => {
+            let sides = parse_sides(words)?;
+            Ok(Asked::Look(within.look(&sides)))
+        }
         Asking::Steps => parse_steps(words),
     }
 }
@@ -240,34 +229,19 @@ fn parse_open(mut words: Words) -> Result<Line, LineFault>
     }
 }
 
-/// Returns the look at the squares between the lines of the words.
-fn parse_within(within: Within, words: Words) -> Result<Asked, LineFault>
-    ensures { result ≡ within_says within words.entry }
-{
-    let sides = parse_sides(words)?;
-    Ok(Asked::Look(within.look(&sides)))
-}
-
 /// Returns the check steps whose number the words spell.
-fn parse_steps(words: Words) -> Result<Asked, LineFault>
+fn parse_steps(mut words: Words) -> Result<Asked, LineFault>
     ensures { result ≡ steps_say words.entry }
-{
-    let most = parse_count(words)?;
-    Ok(Asked::Steps(most))
-}
-
-/// Returns the count that the words spell.
-fn parse_count(mut words: Words) -> Result<u64, LineFault>
-    ensures { result ≡ count_says words.entry }
 {
     let (Some(word), None) = (words.next(), words.next()) else {
         return Err(LineFault::UnknownCommand);
     };
-    count_written(word).ok_or(LineFault::BadNumber)
+    let most = count_written(word).ok_or(LineFault::BadNumber)?;
+    Ok(Asked::Steps(most))
 }
 
 /// Returns the command of the words after a session's name.
-#[tactic(auto, unfolding(crate::specs::Says::command_of))]
+#[tactic(auto, unfolding(crate::specs::Says::command_of, crate::specs::Says::edit_of))]
 fn parse_command<N: Names>(names: &N, mut words: Words) -> Result<Command, LineFault>
     ensures { result ≡ command_of (N.book names.now) words.entry }
 {
@@ -282,18 +256,11 @@ fn parse_command<N: Names>(names: &N, mut words: Words) -> Result<Command, LineF
         parse_end(Command::Save, words)
     } else if verb == b"drc".as_slice() {
         parse_drc(words)
-    } else {
-        parse_edit(names, verb, words)
-    }
-}
-
-/// Returns the command of `paint`, `erase`, `dump` or `getcell`, and of the words after it.
-#[tactic(auto, unfolding(crate::specs::Says::edit_of))]
-fn parse_edit<N: Names>(names: &N, verb: &[u8], words: Words) -> Result<Command, LineFault>
-    ensures { result ≡ edit_of (N.book names.now) verb.now words.entry }
-{
-    if verb == b"paint".as_slice() {
-        parse_paint(names, words)
+    } else if verb == b"paint".as_slice() {
+        let (Some(name), None) = (words.next(), words.next()) else {
+            return Err(LineFault::UnknownCommand);
+        };
+        Ok(Command::Paint(names.type_of(name)))
     } else if verb == b"erase".as_slice() {
         parse_erase(names, words)
     } else if verb == b"dump".as_slice() {
@@ -343,16 +310,6 @@ fn parse_sides(mut words: Words) -> Result<Sides, LineFault>
         }),
         _ => Err(LineFault::BadNumber),
     }
-}
-
-/// Returns the command of the words after `paint`.
-fn parse_paint<N: Names>(names: &N, mut words: Words) -> Result<Command, LineFault>
-    ensures { result ≡ paint_says (N.book names.now) words.entry }
-{
-    let (Some(name), None) = (words.next(), words.next()) else {
-        return Err(LineFault::UnknownCommand);
-    };
-    Ok(Command::Paint(names.type_of(name)))
 }
 
 /// Returns the command of the words after `erase`.

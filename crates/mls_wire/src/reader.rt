@@ -99,33 +99,16 @@ impl LineReader {
         ensures fewer { OnOk result (lines_left self.new input.new < lines_left self.old input.old) }
         ensures called { IsCalled result input.old input.new }
     {
-        self.clear();
+        self.len = 0;
         'chunks: while !self.take_to_newline() {
             if !self.read_ahead(input)? {
-                return Ok(if self.has_begun() {
-                    NextLine::LastLine
-                } else {
-                    NextLine::End
-                });
+                if self.len > 0 {
+                    return Ok(NextLine::LastLine);
+                }
+                return Ok(NextLine::End);
             }
         }
         Ok(NextLine::Line)
-    }
-
-    /// Forgets the line.
-    fn clear(&mut self)
-        ensures ahead { self.new.ahead ≡ self.old.ahead }
-        ensures line { self.new.line ≡ [] }
-    {
-        self.len = 0;
-    }
-
-    /// Whether the line has a byte.
-    fn has_begun(&self) -> bool
-        ensures begun { OnTrue result (0 < length self.now.line) }
-        ensures none { OnFalse result (self.now.line ≡ []) }
-    {
-        self.len > 0
     }
 
     /// Moves what was read ahead to the line, up to the first line feed, which is dropped. Returns whether there was

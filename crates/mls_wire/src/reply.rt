@@ -272,18 +272,11 @@ fn push_status(status: &Status, out: &mut Vec<u8>) -> Pushed
     ensures { Appends result out.old out.new (spec.status_text status.now) }
 {
     out.extend_from_slice(b"stat ")?;
-    push_progress(status, out)?;
-    out.extend_from_slice(b",")?;
-    push_room(status, out)
-}
-
-/// Appends how far a session has come.
-fn push_progress(status: &Status, out: &mut Vec<u8>) -> Pushed
-    ensures { Appends result out.old out.new (spec.progress_text status.now) }
-{
     push_share(status.entries as u64, status.limit as u64, out)?;
     out.extend_from_slice(b" entries, ")?;
-    push_checks(status, out)
+    push_checks(status, out)?;
+    out.extend_from_slice(b",")?;
+    push_room(status, out)
 }
 
 /// Appends how many check steps a session did since its last entry, and how many areas await checking.

@@ -9,12 +9,9 @@ ghost use Rattle.mls_wire.specs.Serving.{AppendsFront, WritesRun, WritesCutRun, 
 ghost use Rattle.mls_wire.specs.Watches.{HasCause};
 
 use crate::reader::{LineReader, NextLine};
-use crate::{
-    ReadFault, ScriptLine, Watched, WriteFault, push_response, respond, server_reads_back,
-};
+use crate::{ReadFault, ScriptLine, Watched, WriteFault, push_response, respond};
 use mls_server::Server;
 use std::alloc::{AllocError, Global};
-use std::fmt;
 use std::io::{Read, Write};
 use thiserror::Error;
 
@@ -23,6 +20,7 @@ const KEPT_BYTES: usize = 65_536;
 
 /// Why a script was left before its end.
 #[derive(Clone, Copy, Debug, PartialEq, Eq, Error)]
+#[error("{}", self.text())]
 pub enum ServeFault {
     /// The input failed.
     Read,
@@ -44,12 +42,6 @@ impl ServeFault {
             ServeFault::Write => "output failed",
             ServeFault::Memory => "memory",
         }
-    }
-}
-
-impl fmt::Display for ServeFault {
-    fn fmt<W: fmt::Write>(&self, f: &mut fmt::Formatter<W>) -> fmt::Result {
-        f.write_str(self.text())
     }
 }
 
@@ -114,7 +106,7 @@ pub fn serve<R: Read, W: Write>(
     // For its contract alone: the marks are exact at first, where nothing is read.
     server.stays_sound();
     // For its contract alone: a journal's lines play it again.
-    server_reads_back(server);
+    server.tech().types();
     let mut reader = LineReader::new();
     let mut text = Vec::new(alloc);
     let mut n: u128 = 1;
@@ -164,15 +156,10 @@ fn serve_line<W: Write>(
     };
     pushed?;
     send(text, output)?;
-    give_back(alloc, text);
-    Ok(())
-}
-
-/// Gives the memory of a reply's text back where it is more than a usual reply needs.
-fn give_back(alloc: Global, text: &mut Vec<u8>) {
     if text.capacity() > KEPT_BYTES {
         *text = Vec::new(alloc);
     }
+    Ok(())
 }
 
 /// Writes bytes and flushes them.

@@ -1,8 +1,15 @@
-use Rattle.std.proofs.Common.{arith, ◌∙◌}
+use Rattle.std.proofs.Common.{◌≤◌, ◌<◌, length, subst, arith, ◌∙◌}
+use Rattle.std.specs.List.{All}
+use Rattle.std.proofs.lemmas.List.Elements.{All-weaker}
 use Rattle.std.proofs.lemmas.Result.{on_ok_weaker}
 use Rattle.mls_server.specs.Servers.{world_of}
+use Rattle.mls_tech.specs.Readings.{HasNames, Tech}
+use Rattle.mls_wire.proofs.WorldNames.{journals-read-back}
 use Rattle.mls_wire.proofs.ServingLemmas.{served_all, failed_within, line_done, last_done, line_cut, last_cut}
+use Rattle.mls_wire.specs.ReadBack.{JournalsReadBack}
+use Rattle.mls_wire.proofs.serving.serve.Given as given
 use Rattle.mls_wire.proofs.serving.serve.Goals as goal
+use Rattle.mls_wire.proofs.serving.serve.Goals.{After-types}
 
 pub returns-in_err-next_line-clause-cut : goal.returns-in_err-next_line-clause-cut
 returns-in_err-next_line-clause-cut g c =
@@ -49,3 +56,24 @@ lines-preserved g c = record {
   output_sound = c.in_ok-serve_line-in-Line.ensures.failed ∙ c.lines.invariant.output_sound;
   numbered = omega (arith, c.in_ok-next_line.ensures.fewer);
 }
+
+read_back : (g : given.Over) (c : After-types g) → JournalsReadBack (world_of c.args.server.now).setting
+read_back g c =
+    let setting = (world_of c.args.server.now).setting in
+    let tech = c.tech.result.now in
+    let few = All-weaker (λ entry. entry.1 ≤ length tech.type_planes) (λ entry. entry.1 < 64) (λ entry within. omega (arith, within, c.types.ensures.value, c.types.ensures.limit)) tech.types c.types.ensures.within in
+    let has = subst (λ (t : Tech). HasNames t.types t.type_planes) c.tech.ensures.value c.types.ensures.named in
+    let small = subst (λ (t : Tech). All (λ entry. entry.1 < 64) t.types) c.tech.ensures.value few in
+    journals-read-back setting has small
+
+pub returns-in_err-next_line-clause-reads_back : goal.returns-in_err-next_line-clause-reads_back
+returns-in_err-next_line-clause-reads_back g c = read_back g (goal.at.returns-in_err-next_line-clause-reads_back g c).After-types
+
+pub returns-in-End-clause-reads_back : goal.returns-in-End-clause-reads_back
+returns-in-End-clause-reads_back g c = read_back g (goal.at.returns-in-End-clause-reads_back g c).After-types
+
+pub returns-in-LastLine-clause-reads_back : goal.returns-in-LastLine-clause-reads_back
+returns-in-LastLine-clause-reads_back g c = read_back g (goal.at.returns-in-LastLine-clause-reads_back g c).After-types
+
+pub returns-in_err-serve_line-in-Line-clause-reads_back : goal.returns-in_err-serve_line-in-Line-clause-reads_back
+returns-in_err-serve_line-in-Line-clause-reads_back g c = read_back g (goal.at.returns-in_err-serve_line-in-Line-clause-reads_back g c).After-types

@@ -1,4 +1,5 @@
-use Rattle.std.proofs.Common.{◌∷◌, ◌∙◌, subst, inl, inr, ⊎_elim, arith}
+use Rattle.std.proofs.Common.{◌≡◌, ◌<◌, ◌∷◌, ◌∙◌, length, take, ap, subst, inl, inr, ⊎_elim, arith}
+use Rattle.std.proofs.lemmas.List.{length-take-le}
 use Rattle.mls_text.specs.Lines.{IsUnbroken}
 use Rattle.mls_wire.specs.LineReaders.{script_ahead}
 use Rattle.mls_wire.proofs.NextLineLemmas.{HasCome, HasCome-chunk, HasCome-all, TakesKnownLine-fed, TakesKnownLine-last, TakesKnownLine-end, BeginsKnownLine-come}
@@ -39,17 +40,23 @@ returns-in_err-read_ahead-clause-begun g c =
     let came = HasCome-all {start = start} (g.R.Read.remaining c.chunks.input.device) _ _ _ _ _ c.chunks.invariant.came unbroken none (read.line ∙ first) read.kept in
     on_err _ _ (BeginsKnownLine-come start _ _ _ came read.none)
 
-pub returns-then-has_begun-clause-taken : goal.returns-then-has_begun-clause-taken
-returns-then-has_begun-clause-taken g c =
+pub returns-then-self-gt0-clause-taken : goal.returns-then-self-gt0-clause-taken
+returns-then-self-gt0-clause-taken g c =
     let end = c.in_ok-read_ahead.ensures.end c.if-not-branch.true in
-    let came = came_so_far g (goal.at.returns-then-has_begun-clause-taken g c).In_ok-read_ahead in
-    TakesKnownLine-last _ _ _ came end c.if-has_begun.ensures.begun
+    let came = came_so_far g (goal.at.returns-then-self-gt0-clause-taken g c).In_ok-read_ahead in
+    let fields = c.self-in-chunks.inside in
+    let (ordered, within, fits) = c.self-in-chunks.invariant in
+    let long = length-take-le fields.len fields.kept (omega (arith, fits, c.self-in-chunks.told.1)) in
+    let some : 0 < length (take fields.len fields.kept) = omega (arith, long, c.if-self-gt0.true) in
+    TakesKnownLine-last _ _ _ came end (rw (← c.self-in-chunks.view_is) some)
 
-pub returns-else-has_begun-clause-taken : goal.returns-else-has_begun-clause-taken
-returns-else-has_begun-clause-taken g c =
+pub returns-then-not-branch-clause-taken : goal.returns-then-not-branch-clause-taken
+returns-then-not-branch-clause-taken g c =
     let end = c.in_ok-read_ahead.ensures.end c.if-not-branch.true in
-    let came = came_so_far g (goal.at.returns-else-has_begun-clause-taken g c).In_ok-read_ahead in
-    TakesKnownLine-end _ _ _ came end c.if-has_begun.ensures.none
+    let came = came_so_far g (goal.at.returns-then-not-branch-clause-taken g c).In_ok-read_ahead in
+    let fields = c.self-in-chunks.inside in
+    let none : fields.len ≡ 0 = omega (arith, c.if-self-gt0.false) in
+    TakesKnownLine-end _ _ _ came end (rw (← c.self-in-chunks.view_is) (ap (λ n. take n fields.kept) none))
 
 pub returns-clause-taken : goal.returns-clause-taken
 returns-clause-taken g c =
