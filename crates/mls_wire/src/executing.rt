@@ -1,10 +1,10 @@
 //! Executing lines.
-ghost use Rattle.std.specs.Prelude.{◌≡◌, ◌≢◌, None, Ok, Some};
+ghost use Rattle.std.specs.Prelude.{◌≡◌, ◌≢◌, None, Some};
 ghost use Rattle.std.specs.Option.{option_map};
 ghost use Rattle.mls_server.specs.Servers.{world_of};
 ghost use Rattle.mls_server.specs.Worlds.{kept_in};
 ghost use Rattle.mls_wire.specs.Runs as runs;
-ghost use Rattle.mls_wire.specs.Runs.{Asks, CanExecute, Executes, says_in};
+ghost use Rattle.mls_wire.specs.Runs.{Asks, Executes, says_in};
 ghost use Rattle.mls_wire.specs.ScriptLines.{bytes_of_line};
 
 use crate::{Line, Response, ScriptLine, parse_line};
@@ -17,18 +17,10 @@ pub fn respond(alloc: Global, server: &mut Server, line: ScriptLine<'_>) -> Resp
         (says_in (world_of server.old) (bytes_of_line line.entry)) result (world_of server.new) }
     ensures setting { (world_of server.new).setting ≡ (world_of server.old).setting }
 {
-    match parse_line(server, server, line) {
-        Ok(said) => execute(alloc, server, said),
-        Err(fault) => Response::Fault(fault),
-    }
-}
-
-/// Executes what a line says.
-fn execute(alloc: Global, server: &mut Server, said: Line) -> Response
-    requires { CanExecute (world_of server.old) said }
-    ensures executes { Executes (world_of server.old) (Ok said) result (world_of server.new) }
-    ensures setting { (world_of server.new).setting ≡ (world_of server.old).setting }
-{
+    let said = match parse_line(server, server, line) {
+        Ok(said) => said,
+        Err(fault) => return Response::Fault(fault),
+    };
     match said {
         Line::Silent => Response::Silent,
         Line::Open(name) => ask(alloc, server, name, Event::Open(name)),
