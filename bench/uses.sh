@@ -14,8 +14,10 @@
 #             a million strips of cells in one piece
 #   far       one use of a cell of two squares of 4, in opposite corners of the world
 #   spread    one use of a cell of 44 by 44 squares of 1, 45,000 from one to the next, all over the world
+#   overlaid  20 uses of that cell, each 1,700 to the right of the one before and 1,300 above it: more squares than may
+#             be dumped
 #
-# The rule of the last four is `spacing poly poly 1 touching_illegal` alone, which forbids nothing in them. The rows of
+# The rule of the last five is `spacing poly poly 1 touching_illegal` alone, which forbids nothing in them. The rows of
 # the first two layouts are:
 #
 #   place             a line `getcell` or `dump`
@@ -32,7 +34,8 @@
 #   what, why         in a box of 250 by 250, the whole of a piece but for its halo
 #   step              `drc check` of that box, and the check step of the one piece that it is
 #
-# of deep and shifted, which were checked before, and `what` and `why` of the world of far and spread, which weren't.
+# of deep and shifted, which were checked before, `what` and `why` of the world of far and spread, which weren't, and the
+# first check of overlaid.
 #
 # Each time is the processor's, in the program and in the system: that of a script less that of one without the lines,
 # of each the least of three runs that take turns. The columns are the row, the layout, the microseconds a line with
@@ -57,9 +60,12 @@ cell() {
 laid() {
     awk -v layout="$1" 'BEGIN {
         pitch = layout == "apart" ? 40 : layout == "shifted" ? 2 : 0
-        uses = layout == "far" || layout == "spread" ? 1 : 256
+        uses = layout == "far" || layout == "spread" ? 1 : layout == "overlaid" ? 20 : 256
         print "%open a"
-        for (i = 0; i < uses; i++) printf "a PLACE c %d %d\n", pitch * (i % 16), pitch * int(i / 16)
+        for (i = 0; i < uses; i++) {
+            if (layout == "overlaid") printf "a PLACE c %d %d\n", 1700 * i - 17000, 1300 * i - 13000
+            else printf "a PLACE c %d %d\n", pitch * (i % 16), pitch * int(i / 16)
+        }
     }'
 }
 
@@ -193,6 +199,20 @@ wide() {
     done
 }
 
+# placed_alone: the first check of cells that are too many squares to be dumped
+placed_alone() {
+    if ! [[ "first check, $layout" =~ ${ROWS:-} ]]; then return 0; fi
+    words=(--tech "$work/tech" --quota 16384 "c=$work/spread.mag")
+    laid "$layout" | sed 's/PLACE/getcell/' > "$work/less"
+    { cat "$work/less"; echo 'a drc catchup'; } > "$work/more"
+    least=()
+    for _ in 1 2 3; do
+        took 0 "$work/less"
+        took 1 "$work/more"
+    done
+    printf 'first check\t%s\t%s\t\t\n' "$layout" "$(each "$((least[1] - least[0]))" 1)"
+}
+
 cell 5 5 4 8 > "$work/small.mag"
 cell 88 23 1 2 > "$work/large.mag"
 printf '%s\n' magic '<< poly >>' 'rect -1048576 -1048576 -1048572 -1048572' 'rect 1048572 1048572 1048576 1048576' '<< end >>' \
@@ -214,3 +234,5 @@ layout=far
 wide 400
 layout=spread
 wide 20
+layout=overlaid
+placed_alone
