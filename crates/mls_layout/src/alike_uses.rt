@@ -33,9 +33,12 @@ pub(crate) fn uses_are_alike(uses: &Uses<'_>, zone: &AlikeZone, workspace: &mut 
         (uses_layout (cell_layouts workspace.old.pool uses.now.library.now) uses.now.list.now plane) }
     ensures pool { workspace.new.pool ≡ workspace.old.pool }
 {
-    if let Some(cell_use) = uses.list.get(workspace.doubtful) {
-        if !use_is_alike(uses, cell_use, zone, workspace) {
-            return false;
+    // The first one is looked at first anyway.
+    if workspace.doubtful > 0 {
+        if let Some(cell_use) = uses.list.get(workspace.doubtful) {
+            if !use_is_alike(uses, cell_use, zone, workspace) {
+                return false;
+            }
         }
     }
     each_is_alike(uses, zone, workspace)

@@ -57,7 +57,7 @@ fn rank(stitch: Stitch, column: u32, row: u32) -> u64
         Stitch::Tr => (column, row),
         Stitch::Rt => (row, column),
     };
-    line as u64 * 4_294_967_296 + along as u64
+    u64::from(line) * (1 << 32) + u64::from(along)
 }
 
 /// Returns where the tile begins for the tiles whose stitch leads to it: its first square on the line that it turns to
